@@ -1,2 +1,3 @@
 pub mod Wiring
 pub mod Rows
+pub mod Rules
