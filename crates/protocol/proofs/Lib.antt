@@ -1,2 +1,5 @@
 mod Rising
 pub mod Rows
+pub mod Wires
+pub mod Siblings
+pub mod Tells

@@ -8,8 +8,10 @@ use Rattle.std.specs.shelf.Lists.{folded}
 use Rattle.std.proofs.shelf.Lists.{take-all, getD-take}
 use Rattle.std.proofs.shelf.Sums.{folded-more}
 use Rattle.telling.specs.declared.Telling.{Telling}
+use Rattle.protocol.specs.declared.facts.Site.{Site}
 use Rattle.protocol.specs.declared.state.Lamp.{Lamp}
-use Rattle.protocol.specs.Rules.{nothing}
+use Rattle.protocol.specs.declared.work.Best.{Best}
+use Rattle.protocol.specs.Rules.{nothing, childSize, sizes}
 use Rattle.protocol.specs.Rows.{Neighbour, rowOf, placesOf, remembered}
 
 length-row-le : (ps : List ℕ) (ts : List Telling) → length (rowOf ps ts) ≤ length ps
@@ -39,19 +41,22 @@ whole-row l k h =
     let short : length (placesOf (l .site)) ≤ l .site .wires = simp length-take (omega arith) in
     take-all k (remembered l) (omega (arith, length-row-le (placesOf (l .site)) (l .heard)))
 
-module _ (l : Lamp) (places : length (l .site .places) ≡ 16) (heard : length (l .heard) ≡ 16) where
-  length-places : length (placesOf (l .site)) ≡ l .site .wires
-  length-places = simp length-take (omega (arith, l .site .few))
+pub length-placesOf : (s : Site) → length (placesOf s) ≡ s .wires
+length-placesOf s = simp length-take (omega (arith, s .full, s .few))
+
+module _ (l : Lamp) (heard : length (l .heard) ≡ 16) where
+  long : length (placesOf (l .site)) ≡ l .site .wires
+  long = length-placesOf (l .site)
 
   pub length-remembered : length (remembered l) ≡ l .site .wires
-  length-remembered = length-row (placesOf (l .site)) (l .heard) (omega (arith, length-places, l .site .few)) ∙ length-places
+  length-remembered = length-row (placesOf (l .site)) (l .heard) (omega (arith, long, l .site .few)) ∙ long
 
   -- the k-th neighbour
   pub remembered-at :
       (k : ℕ) (d : Neighbour) (t : Telling) → k < l .site .wires →
       getD (remembered l) k d ≡ record { place = getD (l .site .places) k 0; said = getD (l .heard) k t }
   remembered-at k d t h =
-      getD-row (placesOf (l .site)) (l .heard) k d t (omega (arith, length-places, l .site .few)) (omega (arith, length-places)) ∙
+      getD-row (placesOf (l .site)) (l .heard) k d t (omega (arith, long, l .site .few)) (omega (arith, long)) ∙
       ap (λ p. record { place = p; said = getD (l .heard) k t }) (getD-take (l .site .wires) (l .site .places) k 0 h)
 
   -- one neighbour more in a loop that folds the row
@@ -61,3 +66,8 @@ module _ (l : Lamp) (places : length (l .site .places) ≡ 16) (heard : length (
   fold-more f y k h e g =
       let n : Neighbour = record { place = getD (l .site .places) k 0; said = getD (l .heard) k nothing } in
       g ∙ ap (λ x. f x n) e ∙ sym (folded-more f y (remembered l) k n (omega (arith, length-remembered)) ∙ ap (f (folded f y (take k (remembered l)))) (remembered-at k n nothing h))
+
+  pub sizes-more :
+      (place : ℕ) (b : Best) (k : ℕ) → k < l .site .wires →
+      sizes place b (take k (remembered l)) + childSize place b (getD (l .heard) k nothing) ≡ sizes place b (take (k + 1) (remembered l))
+  sizes-more place b k h = fold-more (λ a n. a + childSize place b (n .said)) 0 k h refl refl

@@ -1,3 +1,5 @@
 pub mod Wiring
 pub mod Rows
 pub mod Rules
+pub mod Hearing
+pub mod Works

@@ -28,16 +28,16 @@ abbrev pub bestOf : Own → List Neighbour → Best
 bestOf own row = folded (compared (own .most)) (record { name = own .name; distance = 0; parent = own .place }) row
 
 -- a neighbour is a child: it was heard to have this lamp as parent, this lamp's best as best, and the distance one more
-abbrev pub isChild : ℕ → Best → Neighbour → Bool
-isChild place b n = eqb (n .said .parent) place && eqb (n .said .best) (b .name) && eqb (n .said .distance) (b .distance + 1)
+abbrev pub isChild : ℕ → Best → Telling → Bool
+isChild place b t = eqb (t .parent) place && eqb (t .best) (b .name) && eqb (t .distance) (b .distance + 1)
 
 -- the size that a child told, and nothing for any other neighbour
-abbrev pub childSize : ℕ → Best → Neighbour → ℕ
-childSize place b n = cond (isChild place b n) (n .said .size) 0
+abbrev pub childSize : ℕ → Best → Telling → ℕ
+childSize place b t = cond (isChild place b t) (t .size) 0
 
 -- the sizes of all children among some neighbours
 abbrev pub sizes : ℕ → Best → List Neighbour → ℕ
-sizes place b row = sumBy (childSize place b) row
+sizes place b row = sumBy (λ n. childSize place b (n .said)) row
 
 -- the lamp itself and its children's sizes
 abbrev pub sizeOf : Own → Best → List Neighbour → ℕ
@@ -74,7 +74,7 @@ isBefore m n = ltb (m .place) (n .place)
 -- the number given to a neighbour: to a child the own number, one more, and the sizes of the children before it; to any other 0
 abbrev pub givenTo : Own → Best → ℕ → List Neighbour → Neighbour → ℕ
 givenTo own b number row n =
-    cond (isChild (own .place) b n) (min (own .most) (number + 1 + sizes (own .place) b (kept-by (λ m. isBefore m n) row))) 0
+    cond (isChild (own .place) b (n .said)) (min (own .most) (number + 1 + sizes (own .place) b (kept-by (λ m. isBefore m n) row))) 0
 
 -- the telling of six numbers and a number given
 abbrev pub tellingOf : Numbers → ℕ → Telling

@@ -2,7 +2,7 @@
 ghost use mathlib.Core.Path.{_≡_};
 ghost use mathlib.Core.Bool.{true};
 ghost use Prim.Native.Nat.{_≤_};
-ghost use lib.ListN.{take};
+ghost use lib.ListN.{length, take};
 ghost use Rattle.protocol.specs.Wiring.{isSound};
 
 // A lamp has at most so many wires.
@@ -23,6 +23,7 @@ pub struct Site {
     pub(crate) own: Own,
     pub(crate) wires: usize,
     pub(crate) places: [u32; WIRES],
+    ghost full: { length places ≡ 16 },
     ghost few: { wires ≤ 16 },
     ghost sound: { isSound own (take wires places) ≡ true },
 }

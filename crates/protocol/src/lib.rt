@@ -2,4 +2,5 @@
 pub mod facts;
 pub mod sites;
 pub mod state;
+pub mod talk;
 pub mod work;

@@ -3,10 +3,11 @@ ghost use mathlib.Core.Path.{_≡_};
 ghost use mathlib.Core.Bool.{false};
 ghost use Prim.Native.Nat.{_≤_};
 ghost use lib.ListN.{length, take};
+ghost use Rattle.std.specs.Options.{Cases as BySome};
 ghost use Rattle.std.specs.Results.{Cases};
 ghost use Rattle.telling.specs.declared.refusal.Refusal.the-variants.{Input};
 ghost use Rattle.protocol.specs.Wiring.{isSound, mayWire, risesFrom};
-ghost use Rattle.protocol.specs.Rows.{placesOf};
+ghost use Rattle.protocol.specs.Rows.{placesOf, Wire, No-wire};
 use super::facts::Own;
 use super::facts::Site;
 use super::facts::WIRES;
@@ -53,5 +54,17 @@ impl Site {
         }
         let places = padded(places);
         Ok(Site { own, wires, places })
+    }
+
+    // The wire to a place.
+    pub(crate) fn wire_to(&self, place: u32) -> Option<usize>
+        ensures { λ r. ⌜ BySome r (No-wire (now (self .entry)) place) (λ k. Wire (now (self .entry)) place k) ⌝ }
+    {
+        for k in 0..self.wires {
+            if self.places[k] == place {
+                return Some(k);
+            }
+        }
+        None
     }
 }

@@ -1,4 +1,6 @@
 // A lamp's state: where it hangs, what it remembers, what it worked out last.
+ghost use mathlib.Core.Path.{_≡_};
+ghost use lib.ListN.{length};
 use super::facts::Site;
 use super::facts::WIRES;
 use telling::Telling;
@@ -25,6 +27,7 @@ pub struct Numbers {
 pub struct Work {
     pub numbers: Numbers,
     pub given: [u32; WIRES],
+    ghost full: { length given ≡ 16 },
 }
 
 // A lamp. Behind its wires, the tellings hold nothing of meaning.

@@ -9,7 +9,7 @@ pub mod memory;
 pub mod refusal;
 
 // The seven numbers that a lamp tells a neighbour.
-#[derive(Clone, Copy, PartialEq, Eq, Debug, Default)]
+#[derive(Clone, Copy, PartialEq, Eq, Debug)]
 pub struct Telling {
     // the lowest name that the teller knows of
     pub best: u32,
@@ -26,6 +26,17 @@ pub struct Telling {
     // the number that the teller gives to the one told
     pub given: u32,
 }
+
+// What is remembered before anything was heard.
+pub const NOTHING: Telling = Telling {
+    best: 0,
+    distance: 0,
+    parent: 0,
+    size: 0,
+    total: 0,
+    number: 0,
+    given: 0,
+};
 
 // A telling's numbers take so many bytes, four each.
 pub const PART: usize = 28;

@@ -7,9 +7,8 @@ use Rattle.protocol.proofs.state.Lamp.best.Needs as need
 
 pub loop-k-again : need.loop-k-again
 loop-k-again c =
-    let places : length (c .args .self .now .site .places) ≡ 16 = search needs in
     let heard : length (c .args .self .now .heard) ≡ 16 = search needs in
-    fold-more (c .args .self .now) places heard (compared (c .args .self .now .site .own .most)) _ (c .loop-k .k) (c .loop-k-test .taken) (c .loop-k .inv) (c .compared-best .ensures)
+    fold-more (c .args .self .now) heard (compared (c .args .self .now .site .own .most)) _ (c .loop-k .k) (c .loop-k-test .taken) (c .loop-k .inv) (c .compared-best .ensures)
 
 pub returns : need.returns
 returns c = c .loop-k .inv ∙ ap (bestOf (c .args .self .now .site .own)) (whole-row (c .args .self .now) (c .loop-k .k) (c .loop-k-test .left))

@@ -1,0 +1,40 @@
+-- What a lamp that has worked holds.
+-- Assumes nothing.
+use mathlib.Core.Path.{_≡_}
+use mathlib.Core.Bool.{Bool, true, false}
+use mathlib.Core.List.{List, map}
+use Prim.Native.Nat.{ℕ, _<_}
+use lib.ListN.{getD}
+use Rattle.std.specs.Options.{mapped}
+use Rattle.std.specs.declared.option.Option.{Option}
+use Rattle.std.specs.declared.option.Option.the-variants.{Some, None}
+use Rattle.std.specs.declared.result.Result.{Result}
+use Rattle.std.specs.declared.result.Result.the-variants.{Ok, Err}
+use Rattle.telling.specs.declared.refusal.Refusal.{Refusal}
+use Rattle.telling.specs.declared.refusal.Refusal.the-variants.{NoWire}
+use Rattle.telling.specs.Layout.{frameOf}
+use Rattle.protocol.specs.declared.state.Lamp.{Lamp}
+use Rattle.protocol.specs.declared.state.Numbers.{Numbers}
+use Rattle.protocol.specs.declared.state.Work.{Work}
+use Rattle.protocol.specs.declared.work.Best.{Best}
+use Rattle.protocol.specs.Rows.{Neighbour, rowOf, placesOf, remembered}
+use Rattle.protocol.specs.Rules.{saidBy, givenTo, tellingOf}
+
+-- the numbers given on the wires below k are those of the rules
+abbrev pub Gives : Lamp → Best → ℕ → List ℕ → ℕ → Type 0
+Gives l b number given k =
+    (j : ℕ) → j < k → (d : Neighbour) → getD given j 0 ≡ givenTo (l .site .own) b number (remembered l) (getD (remembered l) j d)
+
+-- the six numbers worked out last
+abbrev pub shown : Lamp → Option Numbers
+shown l = mapped (λ w. w .numbers) (l .last)
+
+-- what lies on a lamp's wires since it last worked: to each neighbour, by rising place, its telling
+abbrev pub onWires : Lamp → Option (List Neighbour)
+onWires l = mapped (λ w. rowOf (placesOf (l .site)) (map (tellingOf (w .numbers)) (w .given))) (l .last)
+
+-- the answer to a neighbour's place: no wire there is refused by 2; else the frame on that wire, none before the first work
+abbrev pub tellOf : Bool → ℕ → Option (List Neighbour) → Result (Option (List ℕ)) Refusal
+tellOf false place wires = Err NoWire
+tellOf true place None = Ok None
+tellOf true place (Some row) = Ok (Some (frameOf (saidBy place row)))

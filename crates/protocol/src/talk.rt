@@ -1,0 +1,108 @@
+// Hearing and telling, in frames.
+ghost use mathlib.Core.Path.{_≡_};
+ghost use Prim.Native.Nat.{_<_};
+ghost use lib.ListN.{getD, replicate};
+ghost use Rattle.std.specs.Slices.{found};
+ghost use Rattle.std.specs.declared.option.Option.the-variants.{None};
+ghost use Rattle.telling.specs.Readings.{readingOf};
+ghost use Rattle.protocol.specs.Rows.{placesOf, hasWire, remembered};
+ghost use Rattle.protocol.specs.Rules.{nothing, tellingOf};
+ghost use Rattle.protocol.specs.Hearing.{afterHearing, hearingOf};
+ghost use Rattle.protocol.specs.Works.{shown, onWires, tellOf};
+use super::facts::Site;
+use super::facts::WIRES;
+use super::state::Lamp;
+use super::state::Numbers;
+use super::state::Work;
+use telling::NOTHING;
+use telling::Telling;
+use telling::frame::FRAME;
+use telling::frame::Reading;
+use telling::refusal::Refusal;
+
+impl Work {
+    // What lies on the k-th wire.
+    fn telling(&self, k: usize) -> Telling
+        requires { ⌜ k < 16 ⌝ }
+        ensures { λ r. ⌜ r ≡ tellingOf (now (self .entry) .numbers) (getD (now (self .entry) .given) k 0) ⌝ }
+    {
+        let Numbers {
+            best,
+            distance,
+            parent,
+            size,
+            total,
+            number,
+        } = self.numbers;
+        Telling {
+            best,
+            distance,
+            parent,
+            size,
+            total,
+            number,
+            given: self.given[k],
+        }
+    }
+}
+
+impl Lamp {
+    // A lamp that has heard nothing yet.
+    pub fn new(site: Site) -> Lamp
+        ensures { λ r. ⌜ r ≡ record { site = site; heard = replicate 16 nothing; last = None } ⌝ }
+    {
+        Lamp {
+            site,
+            heard: [NOTHING; WIRES],
+            last: None,
+        }
+    }
+
+    // The places that the lamp is wired to, by rising place.
+    pub fn places(&self) -> &[u32]
+        ensures { λ r. ⌜ now r ≡ placesOf (now (self .entry) .site) ⌝ }
+    {
+        &self.site.places[0..self.site.wires]
+    }
+
+    // The numbers worked out last, none before the first work.
+    pub fn shown(&self) -> Option<Numbers>
+        ensures { λ r. ⌜ r ≡ shown (now (self .entry)) ⌝ }
+    {
+        match self.last {
+            Some(work) => Some(work.numbers),
+            None => None,
+        }
+    }
+
+    // Remembers what a frame from a neighbour says, or refuses and changes nothing.
+    pub fn hear(mut self, from: u32, frame: &[u8]) -> (Lamp, Option<Refusal>)
+        ensures site { λ r. ⌜ r .0 .site ≡ self .site ⌝ }
+        ensures last { λ r. ⌜ r .0 .last ≡ self .last ⌝ }
+        ensures row { λ r. ⌜ remembered (r .0) ≡ afterHearing (readingOf (now (frame .entry))) from (remembered self) ⌝ }
+        ensures same { λ r. ⌜ found (r .1) (λ _. r .0 ≡ self) ⌝ }
+        ensures refusal { λ r. ⌜ r .1 ≡ hearingOf (readingOf (now (frame .entry))) (hasWire (placesOf (self .site)) from) ⌝ }
+    {
+        let Reading::Told(said) = Reading::of(frame) else {
+            return (self, Some(Refusal::Unreadable));
+        };
+        let Some(k) = self.site.wire_to(from) else {
+            return (self, Some(Refusal::NoWire));
+        };
+        self.heard[k] = said;
+        (self, None)
+    }
+
+    // The frame that lies on the wire to a neighbour, none before the first work.
+    pub fn tell(&self, to: u32) -> Result<Option<[u8; FRAME]>, Refusal>
+        ensures { λ r. ⌜ r ≡ tellOf (hasWire (placesOf (now (self .entry) .site)) to) to (onWires (now (self .entry))) ⌝ }
+    {
+        let Some(k) = self.site.wire_to(to) else {
+            return Err(Refusal::NoWire);
+        };
+        let Some(work) = self.last else {
+            return Ok(None);
+        };
+        Ok(Some(work.telling(k).to_frame()))
+    }
+}
