@@ -3,3 +3,4 @@ pub mod Rows
 pub mod Rules
 pub mod Hearing
 pub mod Works
+pub mod Memories

@@ -12,11 +12,7 @@ use Rattle.telling.specs.declared.frame.Reading.the-variants.{Told, Noise}
 use Rattle.telling.specs.Layout.{bytesOf, tellingOf, checkOf, frameOf}
 use Rattle.telling.specs.Readings.{isFrame, readingOf}
 use Rattle.telling.specs.Laws.{Bytes, Fitting}
-use Rattle.telling.proofs.Words.{telling-back, part-back, bytes-take, bytes-drop}
-
-length-bytesOf : (t : Telling) → length (bytesOf t) ≡ 28
-unfolding bytesOf
-length-bytesOf t = refl
+use Rattle.telling.proofs.Words.{length-bytesOf, telling-back, part-back, bytes-take, bytes-drop}
 
 -- writing the telling's bytes and then the check over 30 bytes makes the frame
 pub sealed :

@@ -1,2 +1,3 @@
 pub mod Words
 pub mod Frames
+pub mod Parts

@@ -12,6 +12,10 @@ use Rattle.telling.specs.declared.Telling.{Telling}
 use Rattle.telling.specs.Laws.{Bytes, Fitting}
 use Rattle.telling.specs.Layout.{wordOf, wordAt, bytesOf, tellingOf}
 
+pub length-bytesOf : (t : Telling) → length (bytesOf t) ≡ 28
+unfolding bytesOf
+length-bytesOf t = refl
+
 -- a number from its digits in base 256, and the quotients between them
 digits : (n p q r a b c d : ℕ) → n ≡ p * 256 + d → p ≡ q * 256 + c → q ≡ r * 256 + b → r ≡ a → a * 16777216 + b * 65536 + c * 256 + d ≡ n
 digits n p q r a b c d e f g h = omega arith

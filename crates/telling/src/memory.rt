@@ -6,6 +6,7 @@ ghost use lib.Dec.{ltb};
 ghost use lib.ListN.{length};
 ghost use Rattle.std.specs.declared.option.Option.the-variants.{Some, None};
 ghost use Rattle.telling.specs.Layout.{bytesOf, tellingOf, partOf, stored};
+ghost use Rattle.telling.specs.Laws.{Parts-apart};
 use super::PART;
 use super::Telling;
 
@@ -40,4 +41,10 @@ impl Telling {
         self.put(&mut memory[start..start + PART]);
         true
     }
+}
+
+// A telling that was stored is loaded back, and every other part of the memory is as it was.
+pub fn parts_apart()
+    ensures { λ _. ⌜ Parts-apart ⌝ }
+{
 }

@@ -1,0 +1,59 @@
+// A lamp's memory in bytes that somebody lends, as they are kept while the lamp is off.
+ghost use mathlib.Core.Path.{_≡_};
+ghost use mathlib.Core.Bool.{cond};
+ghost use Prim.Native.Nat.{_*_, _≤_};
+ghost use lib.ListN.{length};
+ghost use Rattle.std.specs.Options.{Cases as BySome};
+ghost use Rattle.telling.specs.Layout.{tellingOf, partOf};
+ghost use Rattle.protocol.specs.Memories.{memoryRefusal, recollection, Recalls, Holds};
+use super::facts::WIRES;
+use super::state::Lamp;
+use telling::NOTHING;
+use telling::PART;
+use telling::Telling;
+use telling::refusal::Refusal;
+
+// The tellings of a memory by wire.
+fn tellings(memory: &[u8], wires: usize) -> [Telling; WIRES]
+    requires { ⌜ wires ≤ 16 ⌝ ∗ ⌜ length (now memory) ≡ 28 * wires ⌝ }
+    ensures { λ r. ⌜ Recalls (λ k. tellingOf (partOf (now (memory .entry)) k)) r wires ⌝ }
+{
+    let mut heard = [NOTHING; WIRES];
+    for k in 0..wires {
+        heard[k] = Telling::load(memory, k).unwrap_or(NOTHING);
+    }
+    heard
+}
+
+impl Lamp {
+    // Takes what a memory holds for what was heard last. A memory of another size is refused, and zeros are taken.
+    pub fn recall(mut self, memory: &[u8]) -> (Lamp, Option<Refusal>)
+        ensures site { λ r. ⌜ r .0 .site ≡ self .site ⌝ }
+        ensures last { λ r. ⌜ r .0 .last ≡ self .last ⌝ }
+        ensures refusal { λ r. ⌜ r .1 ≡ memoryRefusal (self .site .wires) (now (memory .entry)) ⌝ }
+        ensures heard { λ r. ⌜ Recalls (recollection (self .site .wires) (now (memory .entry))) (r .0 .heard) (self .site .wires) ⌝ }
+    {
+        let wires = self.site.wires;
+        if memory.len() != PART * wires {
+            self.heard = [NOTHING; WIRES];
+            return (self, Some(Refusal::Memory));
+        }
+        self.heard = tellings(memory, wires);
+        (self, None)
+    }
+
+    // Writes what is remembered into a memory. One of another size is refused, and nothing is written.
+    pub fn store(&self, memory: &mut [u8]) -> Option<Refusal>
+        ensures refusal { λ r. ⌜ r ≡ memoryRefusal (now (self .entry) .site .wires) (now (memory .entry)) ⌝ }
+        ensures after { λ r. ⌜ BySome r (Holds (now (memory .exit)) (now (self .entry) .heard) (now (self .entry) .site .wires)) (λ _. now (memory .exit) ≡ now (memory .entry)) ⌝ }
+    {
+        let wires = self.site.wires;
+        if memory.len() != PART * wires {
+            return Some(Refusal::Memory);
+        }
+        for k in 0..wires {
+            let _ = self.heard[k].store(memory, k);
+        }
+        None
+    }
+}
