@@ -1,4 +1,5 @@
 mod Rising
+mod Writes
 pub mod Rows
 pub mod Wires
 pub mod Siblings

@@ -11,6 +11,7 @@ use Rattle.std.specs.declared.option.Option.the-variants.{Some, None}
 use Rattle.telling.specs.declared.Telling.{Telling}
 use Rattle.telling.specs.declared.refusal.Refusal.{Refusal}
 use Rattle.telling.specs.declared.refusal.Refusal.the-variants.{Memory}
+use Rattle.telling.specs.Laws.{Fitting}
 use Rattle.telling.specs.Layout.{bytesOf, tellingOf, partOf}
 use Rattle.protocol.specs.Rules.{nothing}
 
@@ -33,3 +34,9 @@ Recalls part heard n = (k : ℕ) → k < n → getD heard k nothing ≡ part k
 -- each part below n holds the telling of that wire
 abbrev pub Holds : List ℕ → List Telling → ℕ → Type 0
 Holds memory heard n = (k : ℕ) → k < n → partOf memory k ≡ bytesOf (getD heard k nothing)
+
+-- what was stored is recalled: the tellings in a memory that holds some are those
+abbrev pub Recalled-as-stored : Type 0
+Recalled-as-stored =
+    (memory : List ℕ) (heard : List Telling) (n : ℕ) → ((k : ℕ) → k < n → Fitting (getD heard k nothing)) → Holds memory heard n →
+    Recalls (λ k. tellingOf (partOf memory k)) heard n

@@ -4,4 +4,6 @@ pub mod recall;
 pub mod sites;
 pub mod state;
 pub mod talk;
+#[cfg(test)]
+mod tests;
 pub mod work;

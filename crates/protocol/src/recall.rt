@@ -5,7 +5,7 @@ ghost use Prim.Native.Nat.{_*_, _≤_};
 ghost use lib.ListN.{length};
 ghost use Rattle.std.specs.Options.{Cases as BySome};
 ghost use Rattle.telling.specs.Layout.{tellingOf, partOf};
-ghost use Rattle.protocol.specs.Memories.{memoryRefusal, recollection, Recalls, Holds};
+ghost use Rattle.protocol.specs.Memories.{memoryRefusal, recollection, Recalls, Holds, Recalled-as-stored};
 use super::facts::WIRES;
 use super::state::Lamp;
 use telling::NOTHING;
@@ -56,4 +56,10 @@ impl Lamp {
         }
         None
     }
+}
+
+// What a lamp stored, it recalls.
+pub fn recalled_as_stored()
+    ensures { λ _. ⌜ Recalled-as-stored ⌝ }
+{
 }

@@ -7,6 +7,8 @@ ghost use Rattle.telling.specs.Layout.{wordAt, bytesOf, tellingOf};
 pub mod frame;
 pub mod memory;
 pub mod refusal;
+#[cfg(test)]
+mod tests;
 
 // The seven numbers that a lamp tells a neighbour.
 #[derive(Clone, Copy, PartialEq, Eq, Debug)]
