@@ -40,5 +40,5 @@ module _ (l : Lamp) (heard : length (l .heard) ≡ 16) where
           let new = getD-map (tellingOf w) given k 0 nothing (omega (arith, l .site .few)) in
           let rule = told-kth (getD (remembered l) k d) (getD given k 0) (gives k inside d) in
           let right = getD-map (λ n. record { place = n .place; said = toldTo (l .site .own) (remembered l) n }) (remembered l) k d d (omega arith) in
-          said ∙ ap (λ t. record { place = getD (placesOf (l .site)) k 0; said = t }) (new ∙ rule) ∙
-          ap (λ p. record { place = p; said = toldTo (l .site .own) (remembered l) (getD (remembered l) k d) }) (sym (ap (λ n. n .place) kept)) ∙ sym right)
+          let place = ap (λ n. n .place) kept in
+          cc)

@@ -1,9 +1,11 @@
 -- What hearing a frame comes to.
 -- Assumes nothing.
 use mathlib.Core.Bool.{Bool, true, false, cond}
+use mathlib.Core.Path.{_≡_}
 use mathlib.Core.List.{List, [], _∷_}
 use Prim.Native.Nat.{ℕ}
 use lib.Dec.{eqb}
+use Rattle.std.specs.Slices.{found}
 use Rattle.std.specs.declared.option.Option.{Option}
 use Rattle.std.specs.declared.option.Option.the-variants.{Some, None}
 use Rattle.telling.specs.declared.Telling.{Telling}
@@ -11,7 +13,8 @@ use Rattle.telling.specs.declared.frame.Reading.{Reading}
 use Rattle.telling.specs.declared.frame.Reading.the-variants.{Told, Noise}
 use Rattle.telling.specs.declared.refusal.Refusal.{Refusal}
 use Rattle.telling.specs.declared.refusal.Refusal.the-variants.{Unreadable, NoWire}
-use Rattle.protocol.specs.Rows.{Neighbour}
+use Rattle.protocol.specs.declared.state.Lamp.{Lamp}
+use Rattle.protocol.specs.Rows.{Neighbour, placesOf, hasWire, remembered}
 
 -- a row in which the neighbour at a place said something else, and every other is as it was
 unfoldable pub recalled : ℕ → Telling → List Neighbour → List Neighbour
@@ -28,3 +31,11 @@ abbrev pub hearingOf : Reading → Bool → Option Refusal
 hearingOf (Told t) true = None
 hearingOf (Told t) false = Some NoWire
 hearingOf Noise wired = Some Unreadable
+
+-- a lamp after it has heard something from a place, and how that was refused: what was refused has changed nothing at all
+pub record Heard (what : Reading) (place : ℕ) (before after : Lamp) (refusal : Option Refusal) : Type 0 where
+  pub site : after .site ≡ before .site
+  pub last : after .last ≡ before .last
+  pub row : remembered after ≡ afterHearing what place (remembered before)
+  pub refused : refusal ≡ hearingOf what (hasWire (placesOf (before .site)) place)
+  pub same : found refusal (λ _. after ≡ before)

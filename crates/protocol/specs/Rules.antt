@@ -23,9 +23,13 @@ isBetter most t b = ltb (away t) most && (ltb (t .best) (b .name) || (eqb (t .be
 unfoldable pub compared : ℕ → Best → Neighbour → Best
 compared most b n = cond (isBetter most (n .said) b) (record { name = n .said .best; distance = away (n .said); parent = n .place }) b
 
--- a lamp begins with its own name, and goes through its neighbours
+-- a lamp begins with its own name, at distance 0, as its own parent
+abbrev pub beginning : Own → Best
+beginning own = record { name = own .name; distance = 0; parent = own .place }
+
+-- and goes through its neighbours, by rising place
 abbrev pub bestOf : Own → List Neighbour → Best
-bestOf own row = folded (compared (own .most)) (record { name = own .name; distance = 0; parent = own .place }) row
+bestOf own row = folded (compared (own .most)) (beginning own) row
 
 -- a neighbour is a child: it was heard to have this lamp as parent, this lamp's best as best, and the distance one more
 abbrev pub isChild : ℕ → Best → Telling → Bool

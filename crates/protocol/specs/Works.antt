@@ -18,7 +18,7 @@ use Rattle.protocol.specs.declared.state.Numbers.{Numbers}
 use Rattle.protocol.specs.declared.state.Work.{Work}
 use Rattle.protocol.specs.declared.work.Best.{Best}
 use Rattle.protocol.specs.Rows.{Neighbour, rowOf, placesOf, remembered}
-use Rattle.protocol.specs.Rules.{saidBy, givenTo, tellingOf}
+use Rattle.protocol.specs.Rules.{saidBy, worked, givenTo, tellingOf, tells}
 
 -- the numbers given on the wires below k are those of the rules
 abbrev pub Gives : Lamp → Best → ℕ → List ℕ → ℕ → Type 0
@@ -32,6 +32,13 @@ shown l = mapped (λ w. w .numbers) (l .last)
 -- what lies on a lamp's wires since it last worked: to each neighbour, by rising place, its telling
 abbrev pub onWires : Lamp → Option (List Neighbour)
 onWires l = mapped (λ w. rowOf (placesOf (l .site)) (map (tellingOf (w .numbers)) (w .given))) (l .last)
+
+-- a lamp after it has worked: its numbers and its tellings are the rules' of what it remembers, and nothing else has changed
+pub record Worked (before after : Lamp) : Type 0 where
+  pub site : after .site ≡ before .site
+  pub heard : after .heard ≡ before .heard
+  pub numbers : shown after ≡ Some (worked (before .site .own) (remembered before))
+  pub wires : onWires after ≡ Some (tells (before .site .own) (remembered before))
 
 -- the answer to a neighbour's place: no wire there is refused by 2; else the frame on that wire, none before the first work
 abbrev pub tellOf : Bool → ℕ → Option (List Neighbour) → Result (Option (List ℕ)) Refusal

@@ -6,8 +6,12 @@ ghost use lib.ListN.{length};
 ghost use Rattle.std.specs.Options.{Cases as BySome};
 ghost use Rattle.telling.specs.Layout.{tellingOf, partOf};
 ghost use Rattle.protocol.specs.Memories.{memoryRefusal, recollection, Recalls, Holds, Recalled-as-stored};
+ghost use Rattle.std.specs.Of.Vec.{vec-items};
+ghost use Rattle.std.specs.Vec.{made};
 use super::facts::WIRES;
 use super::state::Lamp;
+use std::alloc::AllocError;
+use std::alloc::Global;
 use telling::NOTHING;
 use telling::PART;
 use telling::Telling;
@@ -55,6 +59,17 @@ impl Lamp {
             let _ = self.heard[k].store(memory, k);
         }
         None
+    }
+}
+
+impl Lamp {
+    // A memory of just the right size that holds what is remembered.
+    pub fn memory(&self, heap: Global) -> Result<Vec<u8>, AllocError>
+        ensures { λ r. ⌜ made r (λ m. (length (vec-items m) ≡ 28 * now (self .entry) .site .wires) × Holds (vec-items m) (now (self .entry) .heard) (now (self .entry) .site .wires)) ⌝ }
+    {
+        let mut memory = vec![in heap; 0; PART * self.site.wires]?;
+        let _ = self.store(memory.as_mut_slice());
+        Ok(memory)
     }
 }
 

@@ -2,12 +2,11 @@
 ghost use mathlib.Core.Path.{_≡_};
 ghost use Prim.Native.Nat.{_<_};
 ghost use lib.ListN.{getD, replicate};
-ghost use Rattle.std.specs.Slices.{found};
 ghost use Rattle.std.specs.declared.option.Option.the-variants.{None};
 ghost use Rattle.telling.specs.Readings.{readingOf};
-ghost use Rattle.protocol.specs.Rows.{placesOf, hasWire, remembered};
+ghost use Rattle.protocol.specs.Rows.{placesOf, hasWire};
 ghost use Rattle.protocol.specs.Rules.{nothing, tellingOf};
-ghost use Rattle.protocol.specs.Hearing.{afterHearing, hearingOf};
+ghost use Rattle.protocol.specs.Hearing.{Heard};
 ghost use Rattle.protocol.specs.Works.{shown, onWires, tellOf};
 use super::facts::Site;
 use super::facts::WIRES;
@@ -77,11 +76,7 @@ impl Lamp {
 
     // Remembers what a frame from a neighbour says, or refuses and changes nothing.
     pub fn hear(mut self, from: u32, frame: &[u8]) -> (Lamp, Option<Refusal>)
-        ensures site { λ r. ⌜ r .0 .site ≡ self .site ⌝ }
-        ensures last { λ r. ⌜ r .0 .last ≡ self .last ⌝ }
-        ensures row { λ r. ⌜ remembered (r .0) ≡ afterHearing (readingOf (now (frame .entry))) from (remembered self) ⌝ }
-        ensures same { λ r. ⌜ found (r .1) (λ _. r .0 ≡ self) ⌝ }
-        ensures refusal { λ r. ⌜ r .1 ≡ hearingOf (readingOf (now (frame .entry))) (hasWire (placesOf (self .site)) from) ⌝ }
+        ensures { λ r. ⌜ Heard (readingOf (now (frame .entry))) from self (r .0) (r .1) ⌝ }
     {
         let Reading::Told(said) = Reading::of(frame) else {
             return (self, Some(Refusal::Unreadable));

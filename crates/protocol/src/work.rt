@@ -2,10 +2,9 @@
 ghost use mathlib.Core.Bool.{cond};
 ghost use mathlib.Core.Path.{_≡_};
 ghost use Prim.Native.Nat.{_+_, min};
-ghost use Rattle.std.specs.declared.option.Option.the-variants.{Some};
 ghost use Rattle.protocol.specs.Rows.{Neighbour, remembered};
-ghost use Rattle.protocol.specs.Works.{Gives, shown, onWires};
-ghost use Rattle.protocol.specs.Rules.{compared, bestOf, isChild, childSize, sizeOf, saidBy, numbersOf, worked, tells};
+ghost use Rattle.protocol.specs.Works.{Gives, Worked};
+ghost use Rattle.protocol.specs.Rules.{beginning, compared, bestOf, isChild, childSize, sizeOf, saidBy, numbersOf};
 use super::facts::Own;
 use super::facts::WIRES;
 use super::state::Lamp;
@@ -23,6 +22,17 @@ pub struct Best {
 }
 
 impl Best {
+    // A lamp knows of itself.
+    fn begin(own: Own) -> Best
+        ensures { λ r. ⌜ r ≡ beginning own ⌝ }
+    {
+        Best {
+            name: own.name,
+            distance: 0,
+            parent: own.place,
+        }
+    }
+
     // The better of this and what a neighbour said.
     fn compared(self, most: u32, place: u32, said: Telling) -> Best
         ensures { λ r. ⌜ r ≡ compared most self (record { place = place; said = said }) ⌝ }
@@ -83,14 +93,9 @@ impl Lamp {
     fn best(&self) -> Best
         ensures { λ r. ⌜ r ≡ bestOf (now (self .entry) .site .own) (remembered (now (self .entry))) ⌝ }
     {
-        let Own { most, place, name } = self.site.own;
-        let mut best = Best {
-            name,
-            distance: 0,
-            parent: place,
-        };
+        let mut best = Best::begin(self.site.own);
         for k in 0..self.site.wires {
-            best = best.compared(most, self.site.places[k], self.heard[k]);
+            best = best.compared(self.site.own.most, self.site.places[k], self.heard[k]);
         }
         best
     }
@@ -156,10 +161,7 @@ impl Lamp {
 
     // Works everything out from what is remembered, and puts its tellings on all its wires.
     pub fn work(mut self) -> Lamp
-        ensures site { λ r. ⌜ r .site ≡ self .site ⌝ }
-        ensures heard { λ r. ⌜ r .heard ≡ self .heard ⌝ }
-        ensures numbers { λ r. ⌜ shown r ≡ Some (worked (self .site .own) (remembered self)) ⌝ }
-        ensures wires { λ r. ⌜ onWires r ≡ Some (tells (self .site .own) (remembered self)) ⌝ }
+        ensures { λ r. ⌜ Worked self r ⌝ }
     {
         let best = self.best();
         let numbers = self.numbers(best);

@@ -2,11 +2,16 @@
 use mathlib.Core.Bool.{cond}
 use mathlib.Core.List.{List, [], _∷_}
 use mathlib.Core.Path.{_≡_}
-use Prim.Native.Nat.{ℕ}
+use Prim.Native.Nat.{ℕ, _-_}
 use lib.Dec.{eqb}
+use lib.ListN.{length, getD, take}
 use Rattle.std.specs.Vec.{Every}
 use Rattle.std.specs.declared.option.Option.{Option}
 use Rattle.std.specs.declared.option.Option.the-variants.{Some, None}
+
+-- what was read up to a line's end: a line feed at the end is not of the line
+abbrev pub lineOf : List ℕ → List ℕ
+lineOf read = cond (eqb (getD read (length read - 1) 0) 10) (take (length read - 1) read) read
 
 -- what stands before the first space, or the whole line
 unfoldable pub firstWord : List ℕ → List ℕ

@@ -9,7 +9,7 @@ ghost use Rattle.std.specs.Options.{mapped};
 ghost use Rattle.std.specs.Vec.{made};
 ghost use Rattle.text.specs.Decimal.{numberOf, withDigit};
 ghost use Rattle.text.specs.Hex.{hexDigit, hexOf, hexValue, joinDigits, bytesOf, Reads-back, Written-so};
-ghost use Rattle.text.specs.Words.{firstWord, restOf, wordsOf, wordsBehind, spaceAnd, Spaceless};
+ghost use Rattle.text.specs.Words.{lineOf, firstWord, restOf, wordsOf, wordsBehind, spaceAnd, Spaceless};
 use std::alloc::AllocError;
 use std::alloc::Global;
 
@@ -90,6 +90,18 @@ fn hex_value(c: u8) -> Option<u8>
         b'a'..=b'f' => Some(c - b'a' + 10),
         b'A'..=b'F' => Some(c - b'A' + 10),
         _ => None,
+    }
+}
+
+// A line as it was read, without the line feed at its end.
+pub fn line_of(read: &[u8]) -> &[u8]
+    ensures { λ r. ⌜ now r ≡ lineOf (now (read .entry)) ⌝ }
+{
+    let long = read.len();
+    if long > 0 && read[long - 1] == b'\n' {
+        &read[0..long - 1]
+    } else {
+        read
     }
 }
 
@@ -205,5 +217,15 @@ mod tests {
             check(behind.is_none()).note(line)?;
         }
         Ok(())
+    }
+
+    #[test]
+    fn lines() -> Result<(), Fail> {
+        check_eq(line_of(b"work\n"), b"work".as_slice())?;
+        check_eq(line_of(b"work"), b"work".as_slice())?;
+        check_eq(line_of(b"work\r\n"), b"work\r".as_slice())?;
+        check_eq(line_of(b"\n\n"), b"\n".as_slice())?;
+        check_eq(line_of(b"\n"), b"".as_slice())?;
+        check_eq(line_of(b""), b"".as_slice())
     }
 }

@@ -18,7 +18,7 @@ returns-in-rest-wire-to c =
       last = refl;
       row = sym (recalled-missing (lamp .site) from none (lamp .heard) (c .in-Told .said)) ∙ ap (λ r. afterHearing r from (remembered lamp)) (c .in-Told .ensures tt);
       same = refl;
-      refusal =
+      refused =
         ap (λ r. hearingOf r false) (c .in-Told .ensures tt) ∙ ap (hearingOf (readingOf (c .args .frame .now))) (sym (wire-missing (lamp .site) from none)) }
 
 pub returns : need.returns
@@ -34,6 +34,6 @@ returns c =
         sym (recalled-there (lamp .site) from (c .in-Some .k) wire (lamp .heard) heard (c .in-Told .said)) ∙
         ap (λ r. afterHearing r from (remembered lamp)) (c .in-Told .ensures tt);
       same = tt;
-      refusal =
+      refused =
         ap (λ r. hearingOf r true) (c .in-Told .ensures tt) ∙
         ap (hearingOf (readingOf (c .args .frame .now))) (sym (wire-there (lamp .site) from (c .in-Some .k) wire)) }

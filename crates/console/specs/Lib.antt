@@ -1,0 +1,5 @@
+-- What a program is told.
+pub mod Arguments
+pub mod Lines
+pub mod Places
+pub mod Replies

@@ -1,0 +1,102 @@
+// What a lamp answers to an order, and how that stands in a line.
+ghost use mathlib.Core.List.{_∷_, _++_};
+ghost use mathlib.Core.Path.{_≡_};
+ghost use Rattle.std.specs.Of.String.{string-bytes};
+ghost use Rattle.std.specs.Vec.{made};
+ghost use Rattle.std.specs.Written.{decimal};
+ghost use Rattle.text.specs.Hex.{hexOf};
+ghost use Rattle.console.specs.Lines.{meant};
+ghost use Rattle.console.specs.Replies.{Answered, heardAs, toldAs, shownAs, numbersLine};
+use super::orders::Order;
+use protocol::state::Lamp;
+use protocol::state::Numbers;
+use std::alloc::AllocError;
+use std::alloc::Global;
+use telling::frame::FRAME;
+use telling::refusal::Refusal;
+use text::hex_of;
+
+#[derive(Clone, Copy)]
+pub enum Answer {
+    // something was heard, and nothing is said to that
+    Silence,
+    Refused(Refusal),
+    // a frame for each wire
+    Frames,
+    // the frame on the wire to a place
+    Frame(u32, [u8; FRAME]),
+    Numbers(Numbers),
+    // nothing was worked out yet
+    NotYet,
+}
+
+impl Answer {
+    fn heard(refusal: Option<Refusal>) -> Answer
+        ensures { λ r. ⌜ r ≡ heardAs refusal ⌝ }
+    {
+        match refusal {
+            Some(refusal) => Answer::Refused(refusal),
+            None => Answer::Silence,
+        }
+    }
+
+    // The answer to what lies on the wire to a place.
+    pub fn told(place: u32, told: Result<Option<[u8; FRAME]>, Refusal>) -> Answer
+        ensures { λ r. ⌜ r ≡ toldAs place told ⌝ }
+    {
+        match told {
+            Ok(Some(frame)) => Answer::Frame(place, frame),
+            Ok(None) => Answer::NotYet,
+            Err(refusal) => Answer::Refused(refusal),
+        }
+    }
+
+    fn shown(shown: Option<Numbers>) -> Answer
+        ensures { λ r. ⌜ r ≡ shownAs shown ⌝ }
+    {
+        match shown {
+            Some(numbers) => Answer::Numbers(numbers),
+            None => Answer::NotYet,
+        }
+    }
+}
+
+// The lamp after an order, and what it answers.
+pub fn answer_to(lamp: Lamp, order: &Order) -> (Lamp, Answer)
+    ensures { λ r. ⌜ Answered (meant (now (order .entry))) lamp (r .0) (r .1) ⌝ }
+{
+    match order {
+        Order::Work => (lamp.work(), Answer::Frames),
+        Order::Hear(from, Some(frame)) => {
+            let (lamp, refusal) = lamp.hear(*from, frame.as_slice());
+            (lamp, Answer::heard(refusal))
+        }
+        Order::Hear(_, None) => (lamp, Answer::Refused(Refusal::Unreadable)),
+        Order::Tell(to) => (lamp, Answer::told(*to, lamp.tell(*to))),
+        Order::Show => (lamp, Answer::shown(lamp.shown())),
+        Order::Unknown => (lamp, Answer::Refused(Refusal::Input)),
+    }
+}
+
+// A frame with the place that it is for: `P HEX`.
+pub fn frame_line(heap: Global, place: u32, frame: &[u8]) -> Result<String, AllocError>
+    ensures { λ r. ⌜ made r (λ t. string-bytes t ≡ decimal place ++ (32 ∷ hexOf (now (frame .entry)))) ⌝ }
+{
+    let hex = hex_of(heap, frame)?;
+    format!(heap, "{place} {hex}")
+}
+
+// Six numbers, in their order.
+pub fn numbers_line(heap: Global, numbers: Numbers) -> Result<String, AllocError>
+    ensures { λ r. ⌜ made r (λ t. string-bytes t ≡ numbersLine numbers) ⌝ }
+{
+    let Numbers {
+        best,
+        distance,
+        parent,
+        size,
+        total,
+        number,
+    } = numbers;
+    format!(heap, "{best} {distance} {parent} {size} {total} {number}")
+}
