@@ -3,3 +3,4 @@ pub mod Lines
 pub mod Numbers
 pub mod Places
 pub mod Sites
+mod Texts

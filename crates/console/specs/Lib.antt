@@ -2,4 +2,4 @@
 pub mod Arguments
 pub mod Lines
 pub mod Places
-pub mod Replies
+pub mod Answers

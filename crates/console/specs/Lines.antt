@@ -13,7 +13,7 @@ use Rattle.text.specs.Hex.{bytesOf}
 use Rattle.console.specs.declared.orders.Order.{Order}
 use Rattle.console.specs.declared.orders.Order.the-variants.{Work, Hear, Tell, Show, Unknown}
 
--- what a line can mean: to hear goes with a place and a frame, which is none where it cannot be read; to tell goes with a place
+-- what a line can mean: to hear goes with a place and a frame's bytes, none where its digits write none; to tell goes with a place
 pub data Meaning : Type 0 where
   work : Meaning
   hear : ℕ → Option (List ℕ) → Meaning

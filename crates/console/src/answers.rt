@@ -1,12 +1,9 @@
-// What a lamp answers to an order, and how that stands in a line.
-ghost use mathlib.Core.List.{_∷_, _++_};
+// What a lamp answers to an order, and the text of that.
 ghost use mathlib.Core.Path.{_≡_};
 ghost use Rattle.std.specs.Of.String.{string-bytes};
 ghost use Rattle.std.specs.Vec.{made};
-ghost use Rattle.std.specs.Written.{decimal};
-ghost use Rattle.text.specs.Hex.{hexOf};
 ghost use Rattle.console.specs.Lines.{meant};
-ghost use Rattle.console.specs.Replies.{Answered, heardAs, toldAs, shownAs, numbersLine};
+ghost use Rattle.console.specs.Answers.{Answered, heardAs, toldAs, shownAs, textOf, framesText, lineText, refusalText, frameText, numbersText};
 use super::orders::Order;
 use protocol::state::Lamp;
 use protocol::state::Numbers;
@@ -41,7 +38,7 @@ impl Answer {
     }
 
     // The answer to what lies on the wire to a place.
-    pub fn told(place: u32, told: Result<Option<[u8; FRAME]>, Refusal>) -> Answer
+    fn told(place: u32, told: Result<Option<[u8; FRAME]>, Refusal>) -> Answer
         ensures { λ r. ⌜ r ≡ toldAs place told ⌝ }
     {
         match told {
@@ -78,17 +75,55 @@ pub fn answer_to(lamp: Lamp, order: &Order) -> (Lamp, Answer)
     }
 }
 
-// A frame with the place that it is for: `P HEX`.
-pub fn frame_line(heap: Global, place: u32, frame: &[u8]) -> Result<String, AllocError>
-    ensures { λ r. ⌜ made r (λ t. string-bytes t ≡ decimal place ++ (32 ∷ hexOf (now (frame .entry)))) ⌝ }
+// All that is printed for an answer: lines that each end in a line feed.
+pub fn text_of(heap: Global, lamp: &Lamp, answer: Answer) -> Result<String, AllocError>
+    ensures { λ r. ⌜ made r (λ t. string-bytes t ≡ textOf (now (lamp .entry)) answer) ⌝ }
 {
-    let hex = hex_of(heap, frame)?;
-    format!(heap, "{place} {hex}")
+    match answer {
+        Answer::Frames => frames_text(heap, lamp),
+        _ => line_text(heap, answer),
+    }
 }
 
-// Six numbers, in their order.
-pub fn numbers_line(heap: Global, numbers: Numbers) -> Result<String, AllocError>
-    ensures { λ r. ⌜ made r (λ t. string-bytes t ≡ numbersLine numbers) ⌝ }
+fn frames_text(heap: Global, lamp: &Lamp) -> Result<String, AllocError>
+    ensures { λ r. ⌜ made r (λ t. string-bytes t ≡ framesText (now (lamp .entry))) ⌝ }
+{
+    let mut text = String::new(heap);
+    for place in lamp.places() {
+        let line = line_text(heap, Answer::told(*place, lamp.tell(*place)))?;
+        text.push_str(line.as_str())?;
+    }
+    Ok(text)
+}
+
+fn line_text(heap: Global, answer: Answer) -> Result<String, AllocError>
+    ensures { λ r. ⌜ made r (λ t. string-bytes t ≡ lineText answer) ⌝ }
+{
+    match answer {
+        Answer::Silence | Answer::Frames => Ok(String::new(heap)),
+        Answer::Refused(refusal) => refusal_text(heap, refusal),
+        Answer::Frame(place, frame) => frame_text(heap, place, &frame),
+        Answer::Numbers(numbers) => numbers_text(heap, numbers),
+        Answer::NotYet => String::from_str(heap, "none\n"),
+    }
+}
+
+fn refusal_text(heap: Global, refusal: Refusal) -> Result<String, AllocError>
+    ensures { λ r. ⌜ made r (λ t. string-bytes t ≡ refusalText refusal) ⌝ }
+{
+    let number = refusal.number();
+    format!(heap, "{number}\n")
+}
+
+fn frame_text(heap: Global, place: u32, frame: &[u8]) -> Result<String, AllocError>
+    ensures { λ r. ⌜ made r (λ t. string-bytes t ≡ frameText place (now (frame .entry))) ⌝ }
+{
+    let hex = hex_of(heap, frame)?;
+    format!(heap, "{place} {hex}\n")
+}
+
+fn numbers_text(heap: Global, numbers: Numbers) -> Result<String, AllocError>
+    ensures { λ r. ⌜ made r (λ t. string-bytes t ≡ numbersText numbers) ⌝ }
 {
     let Numbers {
         best,
@@ -98,5 +133,5 @@ pub fn numbers_line(heap: Global, numbers: Numbers) -> Result<String, AllocError
         total,
         number,
     } = numbers;
-    format!(heap, "{best} {distance} {parent} {size} {total} {number}")
+    format!(heap, "{best} {distance} {parent} {size} {total} {number}\n")
 }

@@ -5,7 +5,7 @@ ghost use Rattle.std.specs.Of.String.{string-bytes};
 ghost use Rattle.std.specs.Of.Vec.{vec-items};
 ghost use Rattle.std.specs.Options.{mapped};
 ghost use Rattle.std.specs.Vec.{made};
-ghost use Rattle.console.specs.Arguments.{numbersOf, siteOf, siteBy, Told};
+ghost use Rattle.console.specs.Arguments.{numbersIn, siteFrom, siteOf, Site-or-refusal};
 ghost use Rattle.console.specs.Places.{withPlace, risingOf, Rise-from, Rising-and-whole};
 use super::fault::Fault;
 use super::fault::FaultFromAlloc;
@@ -19,7 +19,7 @@ use text::number;
 
 // The site that a program's words name, behind the program's own name.
 pub fn site_of(heap: Global, words: &[String]) -> Result<Site, Fault>
-    ensures { λ r. ⌜ Told (siteBy (map string-bytes (now (words .entry)))) r ⌝ }
+    ensures { λ r. ⌜ Site-or-refusal (siteOf (map string-bytes (now (words .entry)))) r ⌝ }
 {
     match numbers_of(heap, words)? {
         Some(numbers) => site_from(heap, numbers.as_slice()),
@@ -29,7 +29,7 @@ pub fn site_of(heap: Global, words: &[String]) -> Result<Site, Fault>
 
 // The numbers that words write: none where one of them writes none.
 fn numbers_of(heap: Global, words: &[String]) -> Result<Option<Vec<u32>>, AllocError>
-    ensures { λ r. ⌜ made r (λ found. mapped vec-items found ≡ numbersOf (map string-bytes (now (words .entry)))) ⌝ }
+    ensures { λ r. ⌜ made r (λ found. mapped vec-items found ≡ numbersIn (map string-bytes (now (words .entry)))) ⌝ }
 {
     let mut numbers = Vec::new(heap);
     for word in words {
@@ -42,7 +42,7 @@ fn numbers_of(heap: Global, words: &[String]) -> Result<Option<Vec<u32>>, AllocE
 }
 
 fn site_from(heap: Global, numbers: &[u32]) -> Result<Site, Fault>
-    ensures { λ r. ⌜ Told (siteOf (now (numbers .entry))) r ⌝ }
+    ensures { λ r. ⌜ Site-or-refusal (siteFrom (now (numbers .entry))) r ⌝ }
 {
     let [most, place, name, named @ ..] = numbers else {
         return Err(Fault::Refused(Refusal::Input));

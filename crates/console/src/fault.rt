@@ -1,6 +1,6 @@
 // Why there is no site.
 ghost use mathlib.Core.Path.{_≡_};
-ghost use Rattle.console.specs.declared.fault.Fault.the-variants.{Memory, Refused};
+ghost use Rattle.console.specs.declared.fault.Fault.the-variants.{OutOfMemory, Refused};
 use std::alloc::AllocError;
 use telling::refusal::Refusal;
 use telling::refusal::RefusalDebug;
@@ -9,16 +9,15 @@ use telling::refusal::RefusalPartialEq;
 
 #[derive(Clone, Copy, PartialEq, Eq, Debug)]
 pub enum Fault {
-    // no memory is left
-    Memory,
+    OutOfMemory,
     Refused(Refusal),
 }
 
 pub impl From<AllocError> for Fault as FaultFromAlloc {
-    ghost converts = { λ _ r. r ≡ Memory };
+    ghost converts = { λ _ r. r ≡ OutOfMemory };
 
     fn from(_e: AllocError) -> Fault {
-        Fault::Memory
+        Fault::OutOfMemory
     }
 }
 

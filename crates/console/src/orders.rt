@@ -34,7 +34,7 @@ impl Order {
         };
         let (place, rest) = cut(rest);
         let Some(rest) = rest else {
-            return Ok(Order::to(verb, place));
+            return Ok(Order::with_place(verb, place));
         };
         let (digits, rest) = cut(rest);
         match rest {
@@ -57,7 +57,7 @@ impl Order {
     }
 
     // A line of two words.
-    fn to(verb: &[u8], place: &[u8]) -> Order
+    fn with_place(verb: &[u8], place: &[u8]) -> Order
         ensures { λ r. ⌜ meant r ≡ meantBy (now (verb .entry) ∷ now (place .entry) ∷ []) ⌝ }
     {
         match number(place) {

@@ -1,8 +1,7 @@
 // A lamp that is talked to over its standard input and output.
 use console::answers::Answer;
 use console::answers::answer_to;
-use console::answers::frame_line;
-use console::answers::numbers_line;
+use console::answers::text_of;
 use console::arguments::site_of;
 use console::fault::Fault;
 use console::orders::Order;
@@ -18,7 +17,9 @@ use telling::refusal::Refusal;
 use text::line_of;
 
 const MEMORY: &str = "memory";
-const USAGE: &str = "lamp takes MOST PLACE NAME NEIGHBOUR..: MOST from 1 to 1024, places below MOST, at most 16 neighbours, none of them PLACE";
+
+const USAGE: &str =
+    "lamp takes MOST PLACE NAME NEIGHBOUR.., numbers up to 4294967295 in digits alone: MOST from 1 to 1024, places below MOST, at most 16 neighbours, none of them PLACE";
 
 // Why the program ends early.
 #[derive(Drop)]
@@ -29,11 +30,7 @@ enum Stop {
 
 impl From<io::Error> for Stop as StopFromIo {
     fn from(error: io::Error) -> Stop {
-        match error.kind() {
-            // an argument that is no text
-            io::ErrorKind::InvalidData => Stop::Refused(Refusal::Input),
-            _ => Stop::Failed(error),
-        }
+        Stop::Failed(error)
     }
 }
 
@@ -47,7 +44,7 @@ impl From<Fault> for Stop as StopFromFault {
     fn from(fault: Fault) -> Stop {
         match fault {
             Fault::Refused(refusal) => Stop::Refused(refusal),
-            Fault::Memory => Stop::Failed(io::Error::from(AllocError)),
+            Fault::OutOfMemory => Stop::Failed(io::Error::from(AllocError)),
         }
     }
 }
@@ -80,8 +77,20 @@ fn run(rt: &LibcRuntime) -> Result<(), Stop> {
 
 // The site that the arguments behind the program's name tell.
 fn site(rt: &LibcRuntime) -> Result<Site, Stop> {
-    let words: Vec<String> = env::args(rt)?.skip(1).collect(rt.alloc())?;
+    let words = match env::args(rt) {
+        Ok(words) => words,
+        Err(error) => return Err(no_words(error)),
+    };
+    let words: Vec<String> = words.skip(1).collect(rt.alloc())?;
     Ok(site_of(rt.alloc(), words.as_slice())?)
+}
+
+// An argument that is no text is a bad argument.
+fn no_words(error: io::Error) -> Stop {
+    match error.kind() {
+        io::ErrorKind::InvalidData => Stop::Refused(Refusal::Input),
+        _ => Stop::Failed(error),
+    }
 }
 
 // The lamp with what it remembers from before it was off.
@@ -91,7 +100,7 @@ fn wake(rt: &LibcRuntime, lamp: Lamp) -> io::Result<Lamp> {
         Err(_) => (lamp, Some(Refusal::Memory)),
     };
     if let Some(refusal) = refusal {
-        refuse(rt, refusal)?;
+        say(rt, &lamp, Answer::Refused(refusal))?;
     }
     Ok(lamp)
 }
@@ -100,6 +109,7 @@ fn wake(rt: &LibcRuntime, lamp: Lamp) -> io::Result<Lamp> {
 fn talk(rt: &LibcRuntime, mut lamp: Lamp) -> io::Result<Lamp> {
     let mut input = BufReader::new(rt.stdin());
     let mut read = Vec::new(rt.alloc());
+    // nothing says that an input ends, so the lines are counted
     for _ in 0..u64::MAX {
         read.clear();
         if input.read_until(b'\n', &mut read)? == 0 {
@@ -114,25 +124,6 @@ fn talk(rt: &LibcRuntime, mut lamp: Lamp) -> io::Result<Lamp> {
 }
 
 fn say(rt: &LibcRuntime, lamp: &Lamp, answer: Answer) -> io::Result<()> {
-    match answer {
-        Answer::Silence => Ok(()),
-        Answer::Refused(refusal) => refuse(rt, refusal),
-        Answer::Frames => say_frames(rt, lamp),
-        Answer::Frame(place, frame) => rt.println(frame_line(rt.alloc(), place, &frame)?),
-        Answer::Numbers(numbers) => rt.println(numbers_line(rt.alloc(), numbers)?),
-        Answer::NotYet => rt.println("none"),
-    }
-}
-
-fn say_frames(rt: &LibcRuntime, lamp: &Lamp) -> io::Result<()> {
-    for place in lamp.places() {
-        if let Ok(Some(frame)) = lamp.tell(*place) {
-            rt.println(frame_line(rt.alloc(), *place, &frame)?)?;
-        }
-    }
-    Ok(())
-}
-
-fn refuse(rt: &LibcRuntime, refusal: Refusal) -> io::Result<()> {
-    rt.println(refusal.number())
+    let text = text_of(rt.alloc(), lamp, answer)?;
+    rt.print(text)
 }

@@ -28,7 +28,7 @@ length-row (p ∷ ps) (t ∷ ts) h = ap suc (length-row ps ts (omega arith))
 
 pub getD-row :
     (ps : List ℕ) (ts : List Telling) (k : ℕ) (d : Neighbour) (t : Telling) → length ps ≤ length ts → k < length ps →
-    getD (rowOf ps ts) k d ≡ record { place = getD ps k 0; said = getD ts k t }
+    getD (rowOf ps ts) k d ≡ record { place = getD ps k 0; telling = getD ts k t }
 unfolding rowOf
 getD-row [] ts k d t h l = absurd (omega arith)
 getD-row (p ∷ ps) [] k d t h l = absurd (omega arith)
@@ -54,20 +54,20 @@ module _ (l : Lamp) (heard : length (l .heard) ≡ 16) where
   -- the k-th neighbour
   pub remembered-at :
       (k : ℕ) (d : Neighbour) (t : Telling) → k < l .site .wires →
-      getD (remembered l) k d ≡ record { place = getD (l .site .places) k 0; said = getD (l .heard) k t }
+      getD (remembered l) k d ≡ record { place = getD (l .site .places) k 0; telling = getD (l .heard) k t }
   remembered-at k d t h =
       getD-row (placesOf (l .site)) (l .heard) k d t (omega (arith, long, l .site .few)) (omega (arith, long)) ∙
-      ap (λ p. record { place = p; said = getD (l .heard) k t }) (getD-take (l .site .wires) (l .site .places) k 0 h)
+      ap (λ p. record { place = p; telling = getD (l .heard) k t }) (getD-take (l .site .wires) (l .site .places) k 0 h)
 
   -- one neighbour more in a loop that folds the row
   pub fold-more :
       {Y : Type 0} (f : Y → Neighbour → Y) (y : Y) (k : ℕ) {a b : Y} → k < l .site .wires → a ≡ folded f y (take k (remembered l)) →
-      b ≡ f a (record { place = getD (l .site .places) k 0; said = getD (l .heard) k nothing }) → b ≡ folded f y (take (k + 1) (remembered l))
+      b ≡ f a (record { place = getD (l .site .places) k 0; telling = getD (l .heard) k nothing }) → b ≡ folded f y (take (k + 1) (remembered l))
   fold-more f y k h e g =
-      let n : Neighbour = record { place = getD (l .site .places) k 0; said = getD (l .heard) k nothing } in
+      let n : Neighbour = record { place = getD (l .site .places) k 0; telling = getD (l .heard) k nothing } in
       g ∙ ap (λ x. f x n) e ∙ sym (folded-more f y (remembered l) k n (omega (arith, length-remembered)) ∙ ap (f (folded f y (take k (remembered l)))) (remembered-at k n nothing h))
 
   pub sizes-more :
       (place : ℕ) (b : Best) (k : ℕ) → k < l .site .wires →
       sizes place b (take k (remembered l)) + childSize place b (getD (l .heard) k nothing) ≡ sizes place b (take (k + 1) (remembered l))
-  sizes-more place b k h = fold-more (λ a n. a + childSize place b (n .said)) 0 k h refl refl
+  sizes-more place b k h = fold-more (λ a n. a + childSize place b (n .telling)) 0 k h refl refl

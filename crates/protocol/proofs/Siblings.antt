@@ -51,7 +51,7 @@ module _ (own : Own) where
       cond-false _ _ _ (le-ltb p p (omega arith)) ∙ none-before (p + 1) p ps ts (tail-from low p ps r) (omega arith)
   kept-before low (p ∷ ps) (t ∷ ts) (suc k) r l h =
       cond-true _ _ _ (lt-ltb p (getD ps k 0) (omega (arith, at-from (p + 1) ps k (tail-from low p ps r) (omega arith)))) ∙
-      ap (λ row. record { place = p; said = t } ∷ row) (kept-before (p + 1) ps ts k (tail-from low p ps r) (omega arith) (omega arith))
+      ap (λ row. record { place = p; telling = t } ∷ row) (kept-before (p + 1) ps ts k (tail-from low p ps r) (omega arith) (omega arith))
 
 rises-of : (s : Site) → risesFrom (s .own) 0 (placesOf s) ≡ true
 rises-of s = and-parts _ _ (s .sound) .1
@@ -72,6 +72,6 @@ module _ (l : Lamp) (heard : length (l .heard) ≡ 16) where
       next ≡ min (l .site .own .most) (number + 1 + sizes (l .site .own .place) b (take k (remembered l))) →
       x ≡ cond (isChild (l .site .own .place) b (getD (l .heard) k nothing)) next 0 → x ≡ givenTo (l .site .own) b number (remembered l) (getD (remembered l) k d)
   given-kth b number k next x d h e g =
-      let child = ap (λ n. isChild (l .site .own .place) b (n .said)) (remembered-at l heard k d nothing h) in
+      let child = ap (λ n. isChild (l .site .own .place) b (n .telling)) (remembered-at l heard k d nothing h) in
       let before = ap (sizes (l .site .own .place) b) (before-kth k d h) in
       cc

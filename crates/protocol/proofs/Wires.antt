@@ -11,8 +11,8 @@ use Rattle.std.proofs.shelf.Tests.{eq-eqb, ne-eqb, cond-true, cond-false, or-le
 use Rattle.telling.specs.declared.Telling.{Telling}
 use Rattle.protocol.specs.declared.facts.Site.{Site}
 use Rattle.protocol.specs.Rows.{Neighbour, rowOf, placesOf, hasWire, Wire, No-wire}
-use Rattle.protocol.specs.Rules.{nothing, saidBy}
-use Rattle.protocol.specs.Hearing.{recalled}
+use Rattle.protocol.specs.Rules.{nothing, tellingAt}
+use Rattle.protocol.specs.Hearing.{replaced}
 use Rattle.protocol.proofs.Rows.{length-placesOf}
 
 -- the place stands first at k in a list
@@ -39,36 +39,36 @@ unfolding hasWire
 no-wire [] p f = refl
 no-wire (q ∷ ps) p f = or-from _ _ (ne-eqb q p (f 0 (omega arith))) (no-wire ps p (λ k h. f (suc k) (omega arith)))
 
-found-said : (ps : List ℕ) (ts : List Telling) (p k : ℕ) → length ps ≤ length ts → First ps p k → saidBy p (rowOf ps ts) ≡ getD ts k nothing
-unfolding rowOf saidBy
+found-said : (ps : List ℕ) (ts : List Telling) (p k : ℕ) → length ps ≤ length ts → First ps p k → tellingAt p (rowOf ps ts) ≡ getD ts k nothing
+unfolding rowOf tellingAt
 found-said [] ts p k l f = absurd (omega (arith, f .there))
 found-said (q ∷ ps) [] p k l f = absurd (omega arith)
 found-said (q ∷ ps) (t ∷ ts) p zero l f = cond-true _ _ _ (eq-eqb q p (f .leads))
 found-said (q ∷ ps) (t ∷ ts) p (suc k) l f =
     cond-false _ _ _ (ne-eqb q p (f .first 0 (omega arith))) ∙ found-said ps ts p k (omega arith) (next f)
 
-no-said : (ps : List ℕ) (ts : List Telling) (p : ℕ) → Nowhere ps p → saidBy p (rowOf ps ts) ≡ nothing
-unfolding rowOf saidBy
+no-said : (ps : List ℕ) (ts : List Telling) (p : ℕ) → Nowhere ps p → tellingAt p (rowOf ps ts) ≡ nothing
+unfolding rowOf tellingAt
 no-said [] ts p f = refl
 no-said (q ∷ ps) [] p f = refl
 no-said (q ∷ ps) (t ∷ ts) p f = cond-false _ _ _ (ne-eqb q p (f 0 (omega arith))) ∙ no-said ps ts p (λ k h. f (suc k) (omega arith))
 
-found-recalled :
-    (ps : List ℕ) (ts : List Telling) (p k : ℕ) (u : Telling) → length ps ≤ length ts → First ps p k → recalled p u (rowOf ps ts) ≡ rowOf ps (set ts k u)
-unfolding rowOf recalled
-found-recalled [] ts p k u l f = absurd (omega (arith, f .there))
-found-recalled (q ∷ ps) [] p k u l f = absurd (omega arith)
-found-recalled (q ∷ ps) (t ∷ ts) p zero u l f = cond-true _ _ _ (eq-eqb q p (f .leads))
-found-recalled (q ∷ ps) (t ∷ ts) p (suc k) u l f =
+found-replaced :
+    (ps : List ℕ) (ts : List Telling) (p k : ℕ) (u : Telling) → length ps ≤ length ts → First ps p k → replaced p u (rowOf ps ts) ≡ rowOf ps (set ts k u)
+unfolding rowOf replaced
+found-replaced [] ts p k u l f = absurd (omega (arith, f .there))
+found-replaced (q ∷ ps) [] p k u l f = absurd (omega arith)
+found-replaced (q ∷ ps) (t ∷ ts) p zero u l f = cond-true _ _ _ (eq-eqb q p (f .leads))
+found-replaced (q ∷ ps) (t ∷ ts) p (suc k) u l f =
     cond-false _ _ _ (ne-eqb q p (f .first 0 (omega arith))) ∙
-    ap (λ row. record { place = q; said = t } ∷ row) (found-recalled ps ts p k u (omega arith) (next f))
+    ap (λ row. record { place = q; telling = t } ∷ row) (found-replaced ps ts p k u (omega arith) (next f))
 
-no-recalled : (ps : List ℕ) (ts : List Telling) (p : ℕ) (u : Telling) → Nowhere ps p → recalled p u (rowOf ps ts) ≡ rowOf ps ts
-unfolding rowOf recalled
-no-recalled [] ts p u f = refl
-no-recalled (q ∷ ps) [] p u f = refl
-no-recalled (q ∷ ps) (t ∷ ts) p u f =
-    cond-false _ _ _ (ne-eqb q p (f 0 (omega arith))) ∙ ap (λ row. record { place = q; said = t } ∷ row) (no-recalled ps ts p u (λ k h. f (suc k) (omega arith)))
+no-replaced : (ps : List ℕ) (ts : List Telling) (p : ℕ) (u : Telling) → Nowhere ps p → replaced p u (rowOf ps ts) ≡ rowOf ps ts
+unfolding rowOf replaced
+no-replaced [] ts p u f = refl
+no-replaced (q ∷ ps) [] p u f = refl
+no-replaced (q ∷ ps) (t ∷ ts) p u f =
+    cond-false _ _ _ (ne-eqb q p (f 0 (omega arith))) ∙ ap (λ row. record { place = q; telling = t } ∷ row) (no-replaced ps ts p u (λ k h. f (suc k) (omega arith)))
 
 -- the same of a site's wires: where none leads to the place
 module _ (s : Site) (p : ℕ) (n : No-wire s p) where
@@ -80,11 +80,11 @@ module _ (s : Site) (p : ℕ) (n : No-wire s p) where
   pub wire-missing : hasWire (placesOf s) p ≡ false
   wire-missing = no-wire (placesOf s) p nowhere
 
-  pub said-missing : (ts : List Telling) → saidBy p (rowOf (placesOf s) ts) ≡ nothing
+  pub said-missing : (ts : List Telling) → tellingAt p (rowOf (placesOf s) ts) ≡ nothing
   said-missing ts = no-said (placesOf s) ts p nowhere
 
-  pub recalled-missing : (ts : List Telling) (u : Telling) → recalled p u (rowOf (placesOf s) ts) ≡ rowOf (placesOf s) ts
-  recalled-missing ts u = no-recalled (placesOf s) ts p u nowhere
+  pub replaced-missing : (ts : List Telling) (u : Telling) → replaced p u (rowOf (placesOf s) ts) ≡ rowOf (placesOf s) ts
+  replaced-missing ts u = no-replaced (placesOf s) ts p u nowhere
 
 -- and where one does
 module _ (s : Site) (p k : ℕ) (w : Wire s p k) where
@@ -93,13 +93,14 @@ module _ (s : Site) (p k : ℕ) (w : Wire s p k) where
       record {
         there = omega (arith, length-placesOf s, w .there);
         leads = getD-take (s .wires) (s .places) k 0 (w .there) ∙ w .leads;
-        first = λ j h e. w .first j h (sym (getD-take (s .wires) (s .places) j 0 (omega (arith, w .there))) ∙ e) }
+        first = λ j h e. w .first j h (sym (getD-take (s .wires) (s .places) j 0 (omega (arith, w .there))) ∙ e);
+      }
 
   pub wire-there : hasWire (placesOf s) p ≡ true
   wire-there = found-wire (placesOf s) p k at
 
-  pub said-there : (ts : List Telling) → length ts ≡ 16 → saidBy p (rowOf (placesOf s) ts) ≡ getD ts k nothing
+  pub said-there : (ts : List Telling) → length ts ≡ 16 → tellingAt p (rowOf (placesOf s) ts) ≡ getD ts k nothing
   said-there ts long = found-said (placesOf s) ts p k (omega (arith, length-placesOf s, s .few)) at
 
-  pub recalled-there : (ts : List Telling) → length ts ≡ 16 → (u : Telling) → recalled p u (rowOf (placesOf s) ts) ≡ rowOf (placesOf s) (set ts k u)
-  recalled-there ts long u = found-recalled (placesOf s) ts p k u (omega (arith, length-placesOf s, s .few)) at
+  pub replaced-there : (ts : List Telling) → length ts ≡ 16 → (u : Telling) → replaced p u (rowOf (placesOf s) ts) ≡ rowOf (placesOf s) (set ts k u)
+  replaced-there ts long u = found-replaced (placesOf s) ts p k u (omega (arith, length-placesOf s, s .few)) at

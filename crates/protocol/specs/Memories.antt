@@ -1,13 +1,14 @@
 -- What a memory says of a lamp's neighbours: the k-th part is of the k-th wire.
--- Assumes nothing.
 use mathlib.Core.Path.{_≡_}
-use mathlib.Core.Bool.{Bool, cond}
+use mathlib.Core.Bool.{Bool, true, cond}
 use mathlib.Core.List.{List}
 use Prim.Native.Nat.{ℕ, _*_, _<_}
 use lib.Dec.{eqb}
 use lib.ListN.{length, getD}
 use Rattle.std.specs.declared.option.Option.{Option}
 use Rattle.std.specs.declared.option.Option.the-variants.{Some, None}
+use Rattle.std.specs.declared.result.Result.{Result}
+use Rattle.std.specs.declared.result.Result.the-variants.{Ok, Err}
 use Rattle.telling.specs.declared.Telling.{Telling}
 use Rattle.telling.specs.declared.refusal.Refusal.{Refusal}
 use Rattle.telling.specs.declared.refusal.Refusal.the-variants.{Memory}
@@ -19,9 +20,12 @@ use Rattle.protocol.specs.Rules.{nothing}
 abbrev pub isMemory : ℕ → List ℕ → Bool
 isMemory wires memory = eqb (length memory) (28 * wires)
 
--- a memory of another size is refused by 3
-abbrev pub memoryRefusal : ℕ → List ℕ → Option Refusal
-memoryRefusal wires memory = cond (isMemory wires memory) None (Some Memory)
+-- a memory of another size is refused by 3, in recalling and in storing
+abbrev pub recallingOf : ℕ → List ℕ → Option Refusal
+recallingOf wires memory = cond (isMemory wires memory) None (Some Memory)
+
+abbrev pub storingOf : ℕ → List ℕ → Result (Unit {0}) Refusal
+storingOf wires memory = cond (isMemory wires memory) (Ok tt) (Err Memory)
 
 -- the telling in a part of a memory, zeros if the memory is of another size
 abbrev pub recollection : ℕ → List ℕ → ℕ → Telling
@@ -38,5 +42,5 @@ Holds memory heard n = (k : ℕ) → k < n → partOf memory k ≡ bytesOf (getD
 -- what was stored is recalled: the tellings in a memory that holds some are those
 abbrev pub Recalled-as-stored : Type 0
 Recalled-as-stored =
-    (memory : List ℕ) (heard : List Telling) (n : ℕ) → ((k : ℕ) → k < n → Fitting (getD heard k nothing)) → Holds memory heard n →
-    Recalls (λ k. tellingOf (partOf memory k)) heard n
+    (memory : List ℕ) (heard : List Telling) (n : ℕ) → isMemory n memory ≡ true → ((k : ℕ) → k < n → Fitting (getD heard k nothing)) →
+    Holds memory heard n → Recalls (recollection n memory) heard n

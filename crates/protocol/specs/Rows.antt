@@ -1,5 +1,4 @@
 -- A lamp's neighbours, and what it remembers of each.
--- Assumes nothing.
 use mathlib.Core.Path.{_≡_}
 use mathlib.Core.Bool.{Bool, false, _||_}
 use mathlib.Core.List.{List, [], _∷_}
@@ -13,13 +12,13 @@ use Rattle.protocol.specs.declared.state.Lamp.{Lamp}
 -- a neighbour: its place, and a telling that was heard of it or is told to it
 pub record Neighbour : Type 0 where
   pub place : ℕ
-  pub said : Telling
+  pub telling : Telling
 
 -- places and tellings, one beside the other
 unfoldable pub rowOf : List ℕ → List Telling → List Neighbour
 rowOf [] ts = []
 rowOf (p ∷ ps) [] = []
-rowOf (p ∷ ps) (t ∷ ts) = record { place = p; said = t } ∷ rowOf ps ts
+rowOf (p ∷ ps) (t ∷ ts) = record { place = p; telling = t } ∷ rowOf ps ts
 
 -- the places that a lamp is wired to, by rising place
 abbrev pub placesOf : Site → List ℕ

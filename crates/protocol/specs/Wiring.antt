@@ -1,5 +1,4 @@
 -- What has to be right of a lamp's own numbers and wires.
--- Assumes nothing.
 use mathlib.Core.Bool.{Bool, true, _&&_, not}
 use mathlib.Core.List.{List, [], _∷_}
 use Prim.Native.Nat.{ℕ, _+_}

@@ -1,11 +1,10 @@
 // A lamp's memory in bytes that somebody lends, as they are kept while the lamp is off.
 ghost use mathlib.Core.Path.{_≡_};
-ghost use mathlib.Core.Bool.{cond};
 ghost use Prim.Native.Nat.{_*_, _≤_};
 ghost use lib.ListN.{length};
-ghost use Rattle.std.specs.Options.{Cases as BySome};
+ghost use Rattle.std.specs.Results.{Cases};
 ghost use Rattle.telling.specs.Layout.{tellingOf, partOf};
-ghost use Rattle.protocol.specs.Memories.{memoryRefusal, recollection, Recalls, Holds, Recalled-as-stored};
+ghost use Rattle.protocol.specs.Memories.{recallingOf, storingOf, recollection, Recalls, Holds, Recalled-as-stored};
 ghost use Rattle.std.specs.Of.Vec.{vec-items};
 ghost use Rattle.std.specs.Vec.{made};
 use super::facts::WIRES;
@@ -34,7 +33,7 @@ impl Lamp {
     pub fn recall(mut self, memory: &[u8]) -> (Lamp, Option<Refusal>)
         ensures site { λ r. ⌜ r .0 .site ≡ self .site ⌝ }
         ensures last { λ r. ⌜ r .0 .last ≡ self .last ⌝ }
-        ensures refusal { λ r. ⌜ r .1 ≡ memoryRefusal (self .site .wires) (now (memory .entry)) ⌝ }
+        ensures refusal { λ r. ⌜ r .1 ≡ recallingOf (self .site .wires) (now (memory .entry)) ⌝ }
         ensures heard { λ r. ⌜ Recalls (recollection (self .site .wires) (now (memory .entry))) (r .0 .heard) (self .site .wires) ⌝ }
     {
         let wires = self.site.wires;
@@ -47,22 +46,20 @@ impl Lamp {
     }
 
     // Writes what is remembered into a memory. One of another size is refused, and nothing is written.
-    pub fn store(&self, memory: &mut [u8]) -> Option<Refusal>
-        ensures refusal { λ r. ⌜ r ≡ memoryRefusal (now (self .entry) .site .wires) (now (memory .entry)) ⌝ }
-        ensures after { λ r. ⌜ BySome r (Holds (now (memory .exit)) (now (self .entry) .heard) (now (self .entry) .site .wires)) (λ _. now (memory .exit) ≡ now (memory .entry)) ⌝ }
+    pub fn store(&self, memory: &mut [u8]) -> Result<(), Refusal>
+        ensures refusal { λ r. ⌜ r ≡ storingOf (now (self .entry) .site .wires) (now (memory .entry)) ⌝ }
+        ensures after { λ r. ⌜ Cases r (λ _. Holds (now (memory .exit)) (now (self .entry) .heard) (now (self .entry) .site .wires)) (λ _. now (memory .exit) ≡ now (memory .entry)) ⌝ }
     {
         let wires = self.site.wires;
         if memory.len() != PART * wires {
-            return Some(Refusal::Memory);
+            return Err(Refusal::Memory);
         }
         for k in 0..wires {
             let _ = self.heard[k].store(memory, k);
         }
-        None
+        Ok(())
     }
-}
 
-impl Lamp {
     // A memory of just the right size that holds what is remembered.
     pub fn memory(&self, heap: Global) -> Result<Vec<u8>, AllocError>
         ensures { λ r. ⌜ made r (λ m. (length (vec-items m) ≡ 28 * now (self .entry) .site .wires) × Holds (vec-items m) (now (self .entry) .heard) (now (self .entry) .site .wires)) ⌝ }
@@ -76,5 +73,4 @@ impl Lamp {
 // What a lamp stored, it recalls.
 pub fn recalled_as_stored()
     ensures { λ _. ⌜ Recalled-as-stored ⌝ }
-{
-}
+{}

@@ -49,7 +49,12 @@ impl Site {
         ensures { λ r. ⌜ Cases r (λ s. (s .own ≡ own) × (placesOf s ≡ now (places .entry))) (λ e. (e ≡ Input) × (isSound own (now (places .entry)) ≡ false)) ⌝ }
     {
         let wires = places.len();
-        if own.most < 1 || own.most > 1024 || own.place >= own.most || wires > WIRES || !rises(own, places) {
+        if own.most < 1
+            || own.most > 1024
+            || own.place >= own.most
+            || wires > WIRES
+            || !rises(own, places)
+        {
             return Err(Refusal::Input);
         }
         let places = padded(places);

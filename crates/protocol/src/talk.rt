@@ -4,10 +4,10 @@ ghost use Prim.Native.Nat.{_<_};
 ghost use lib.ListN.{getD, replicate};
 ghost use Rattle.std.specs.declared.option.Option.the-variants.{None};
 ghost use Rattle.telling.specs.Readings.{readingOf};
-ghost use Rattle.protocol.specs.Rows.{placesOf, hasWire};
-ghost use Rattle.protocol.specs.Rules.{nothing, tellingOf};
+ghost use Rattle.protocol.specs.Rows.{placesOf};
+ghost use Rattle.protocol.specs.Rules.{nothing, tellingWith};
 ghost use Rattle.protocol.specs.Hearing.{Heard};
-ghost use Rattle.protocol.specs.Works.{shown, onWires, tellOf};
+ghost use Rattle.protocol.specs.Works.{shown, tellOf};
 use super::facts::Site;
 use super::facts::WIRES;
 use super::state::Lamp;
@@ -23,7 +23,7 @@ impl Work {
     // What lies on the k-th wire.
     fn telling(&self, k: usize) -> Telling
         requires { ⌜ k < 16 ⌝ }
-        ensures { λ r. ⌜ r ≡ tellingOf (now (self .entry) .numbers) (getD (now (self .entry) .given) k 0) ⌝ }
+        ensures { λ r. ⌜ r ≡ tellingWith (now (self .entry) .numbers) (getD (now (self .entry) .given) k 0) ⌝ }
     {
         let Numbers {
             best,
@@ -78,8 +78,9 @@ impl Lamp {
     pub fn hear(mut self, from: u32, frame: &[u8]) -> (Lamp, Option<Refusal>)
         ensures { λ r. ⌜ Heard (readingOf (now (frame .entry))) from self (r .0) (r .1) ⌝ }
     {
-        let Reading::Told(said) = Reading::of(frame) else {
-            return (self, Some(Refusal::Unreadable));
+        let reading = Reading::of(frame);
+        let Reading::Told(said) = reading else {
+            return (self, reading.refusal());
         };
         let Some(k) = self.site.wire_to(from) else {
             return (self, Some(Refusal::NoWire));
@@ -90,7 +91,7 @@ impl Lamp {
 
     // The frame that lies on the wire to a neighbour, none before the first work.
     pub fn tell(&self, to: u32) -> Result<Option<[u8; FRAME]>, Refusal>
-        ensures { λ r. ⌜ r ≡ tellOf (hasWire (placesOf (now (self .entry) .site)) to) to (onWires (now (self .entry))) ⌝ }
+        ensures { λ r. ⌜ r ≡ tellOf (now (self .entry)) to ⌝ }
     {
         let Some(k) = self.site.wire_to(to) else {
             return Err(Refusal::NoWire);

@@ -77,7 +77,13 @@ fn two_large_children() -> Result<(), Fail> {
     let frame = lamp.tell(2)?.ok_or("not worked")?;
     check_eq(Reading::of(&frame), Reading::Told(told))?;
     let frame = lamp.tell(8)?.ok_or("not worked")?;
-    check_eq(Reading::of(&frame), Reading::Told(Telling { given: 1024, ..told }))
+    check_eq(
+        Reading::of(&frame),
+        Reading::Told(Telling {
+            given: 1024,
+            ..told
+        }),
+    )
 }
 
 // A told distance of 4,294,967,295 is too far, and does not come round to 0.
@@ -107,7 +113,7 @@ fn refused_and_unchanged() -> Result<(), Fail> {
     check_eq(lamp.tell(1), Ok(None))?;
     check_eq(lamp.tell(2), Err(Refusal::NoWire))?;
     let mut memory = [1u8; PART];
-    check_eq(lamp.store(&mut memory), None)?;
+    check_eq(lamp.store(&mut memory), Ok(()))?;
     check_eq(&memory[0..PART], &[0u8; PART][0..PART])
 }
 
@@ -116,7 +122,7 @@ fn over_night() -> Result<(), Fail> {
     let (tired, heard) = lamp(4, 0, 7, &[1, 3])?.hear(3, &said(2, 1, 1, 1).to_frame());
     check_eq(heard, None)?;
     let mut memory = [0u8; 2 * PART];
-    check_eq(tired.store(&mut memory), None)?;
+    check_eq(tired.store(&mut memory), Ok(()))?;
     let (fresh, recalled) = lamp(4, 0, 7, &[1, 3])?.recall(&memory);
     check_eq(recalled, None)?;
     check_eq(fresh.work().shown(), tired.work().shown())?;

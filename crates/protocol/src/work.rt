@@ -4,7 +4,7 @@ ghost use mathlib.Core.Path.{_≡_};
 ghost use Prim.Native.Nat.{_+_, min};
 ghost use Rattle.protocol.specs.Rows.{Neighbour, remembered};
 ghost use Rattle.protocol.specs.Works.{Gives, Worked};
-ghost use Rattle.protocol.specs.Rules.{beginning, compared, bestOf, isChild, childSize, sizeOf, saidBy, numbersOf};
+ghost use Rattle.protocol.specs.Rules.{beginning, compared, bestOf, isChild, childSize, sizeOf, tellingAt, numbersOf};
 use super::facts::Own;
 use super::facts::WIRES;
 use super::state::Lamp;
@@ -35,7 +35,7 @@ impl Best {
 
     // The better of this and what a neighbour said.
     fn compared(self, most: u32, place: u32, said: Telling) -> Best
-        ensures { λ r. ⌜ r ≡ compared most self (record { place = place; said = said }) ⌝ }
+        ensures { λ r. ⌜ r ≡ compared most self (record { place = place; telling = said }) ⌝ }
     {
         let Some(distance) = said.distance.checked_add(1) else {
             return self;
@@ -54,27 +54,30 @@ impl Best {
     }
 
     // Whether a neighbour that said this is a child of the lamp at this place.
-    fn is_parent_of(self, place: u32, said: Telling) -> bool
+    fn is_child(self, place: u32, said: Telling) -> bool
         ensures { λ r. ⌜ r ≡ isChild place self said ⌝ }
     {
         said.parent == place
             && said.best == self.name
-            && said.distance > self.distance
-            && said.distance - self.distance == 1
+            && said.distance.checked_sub(self.distance) == Some(1)
     }
 
     // The next number for a child, 0 for any other neighbour.
     fn given_to(self, place: u32, said: Telling, next: u32) -> u32
         ensures { λ r. ⌜ r ≡ cond (isChild place self said) next 0 ⌝ }
     {
-        if self.is_parent_of(place, said) { next } else { 0 }
+        if self.is_child(place, said) { next } else { 0 }
     }
 
     // The size that a child told, nothing for any other neighbour.
     fn child_size(self, place: u32, said: Telling) -> u32
         ensures { λ r. ⌜ r ≡ childSize place self said ⌝ }
     {
-        if self.is_parent_of(place, said) { said.size } else { 0 }
+        if self.is_child(place, said) {
+            said.size
+        } else {
+            0
+        }
     }
 }
 
@@ -82,10 +85,7 @@ impl Best {
 fn cut_sum(most: u32, a: u32, b: u32) -> u32
     ensures { λ r. ⌜ r ≡ min most (a + b) ⌝ }
 {
-    match a.checked_add(b) {
-        Some(sum) => sum.min(most),
-        None => most,
-    }
+    a.saturating_add(b).min(most)
 }
 
 impl Lamp {
@@ -114,7 +114,7 @@ impl Lamp {
 
     // What the neighbour at a place said.
     fn said_by(&self, place: u32) -> Telling
-        ensures { λ r. ⌜ r ≡ saidBy place (remembered (now (self .entry))) ⌝ }
+        ensures { λ r. ⌜ r ≡ tellingAt place (remembered (now (self .entry))) ⌝ }
     {
         match self.site.wire_to(place) {
             Some(k) => self.heard[k],

@@ -29,7 +29,7 @@ framed p l =
     let front : take 28 (p ++ checkOf (76 ∷ p) ∷ []) ≡ p = take-at p _ 28 l in
     let last : getD (p ++ checkOf (76 ∷ p) ∷ []) 28 0 ≡ checkOf (76 ∷ p) = getD-at p _ [] 0 28 l in
     let frame : isFrame (76 ∷ (p ++ checkOf (76 ∷ p) ∷ [])) ≡ true =
-      and-from _ _ (and-from _ _ (eq-eqb _ 30 (ap suc whole)) (eq-eqb 76 76 refl)) (eq-eqb _ _ (last ∙ ap (λ xs. checkOf (76 ∷ xs)) (sym front))) in
+    and-from _ _ (and-from _ _ (eq-eqb _ 30 (ap suc whole)) (eq-eqb 76 76 refl)) (eq-eqb _ _ (last ∙ ap (λ xs. checkOf (76 ∷ xs)) (sym front))) in
     cond-true _ _ _ frame ∙ ap (λ xs. Told (tellingOf xs)) front
 
 pub read-back : (t : Telling) → Fitting t → readingOf (frameOf t) ≡ Told t

@@ -40,11 +40,12 @@ module _ (m : List ℕ) (k : ℕ) (t : Telling) (h : 28 * k + 28 ≤ length m) w
       let gap : ℕ = 28 * j - (28 * k + 28) in
       let far : 28 * k + 28 + gap ≡ 28 * j = omega arith in
       let past : drop (28 * k + 28) (stored m k t) ≡ drop (28 * k + 28) m =
-        sym (drop-drop 28 (28 * k) (stored m k t)) ∙ ap (drop 28) behind ∙ drop-at (bytesOf t) _ 28 (length-bytesOf t) in
+      sym (drop-drop 28 (28 * k) (stored m k t)) ∙ ap (drop 28) behind ∙ drop-at (bytesOf t) _ 28 (length-bytesOf t) in
       ap (λ n. take 28 (drop n (stored m k t))) (sym far) ∙ ap (take 28) (sym (drop-drop gap (28 * k + 28) (stored m k t))) ∙
       ap (λ xs. take 28 (drop gap xs)) past ∙ ap (take 28) (drop-drop gap (28 * k + 28) m) ∙ ap (λ n. take 28 (drop n m)) far
 
 pub parts-apart : Parts-apart
-parts-apart m k t fits h =
-    (ap tellingOf (part-here m k t h) ∙ telling-back t fits,
-    λ j other. ⊎-elim (part-below m k t h j) (λ l. part-above m k t h j (omega arith)) (cases-lt j k))
+parts-apart m k t fits h = (
+  ap tellingOf (part-here m k t h) ∙ telling-back t fits,
+  λ j other. ⊎-elim (part-below m k t h j) (λ l. part-above m k t h j (omega arith)) (cases-lt j k),
+)

@@ -1,6 +1,4 @@
 -- How a telling stands in bytes: as a frame on a wire, and as a part of a memory.
--- Assumes nothing.
-use mathlib.Core.Path.{_≡_}
 use mathlib.Core.List.{List, [], _∷_, _++_}
 use Prim.Native.Nat.{ℕ, _+_, _*_, _/_, _%_}
 use lib.ListN.{getD, take, drop}
@@ -29,7 +27,8 @@ tellingOf bytes =
       size = wordAt bytes 12;
       total = wordAt bytes 16;
       number = wordAt bytes 20;
-      given = wordAt bytes 24 }
+      given = wordAt bytes 24;
+    }
 
 -- the last byte of a frame: the sum of those before it, cut to 8 bits
 abbrev pub checkOf : List ℕ → ℕ

@@ -10,6 +10,10 @@ use super::refusal::Refusal;
 
 // How many bytes a frame has.
 pub const FRAME: usize = 30;
+// The first of them, and where the last of them stands: the check of all before it.
+const FIRST: u8 = 76;
+
+const CHECK: usize = 29;
 
 // What reading a frame comes to.
 #[derive(Clone, Copy, PartialEq, Eq, Debug)]
@@ -34,13 +38,13 @@ impl Reading {
     pub fn of(frame: &[u8]) -> Reading
         ensures { λ r. ⌜ r ≡ readingOf (now (frame .entry)) ⌝ }
     {
-        let [76, .., check] = frame else {
+        let [FIRST, .., check] = frame else {
             return Reading::Noise;
         };
-        if frame.len() != FRAME || *check != check_of(&frame[0..29]) {
+        if frame.len() != FRAME || *check != check_of(&frame[0..CHECK]) {
             return Reading::Noise;
         }
-        Reading::Told(Telling::from_part(&frame[1..29]))
+        Reading::Told(Telling::from_part(&frame[1..CHECK]))
     }
 
     // What it is refused as; a telling is not.
@@ -59,9 +63,9 @@ impl Telling {
     pub fn to_frame(self) -> [u8; FRAME]
         ensures { λ r. ⌜ r ≡ frameOf self ⌝ }
     {
-        let mut frame = [76; FRAME];
-        frame[1..29].copy_from_slice(&self.to_part());
-        frame[29] = check_of(&frame[0..29]);
+        let mut frame = [FIRST; FRAME];
+        frame[1..CHECK].copy_from_slice(&self.to_part());
+        frame[CHECK] = check_of(&frame[0..CHECK]);
         frame
     }
 }
@@ -69,5 +73,4 @@ impl Telling {
 // Each telling has exactly one frame that is read, and it is read to that telling.
 pub fn one_frame_each()
     ensures { λ _. ⌜ One-frame-each ⌝ }
-{
-}
+{}

@@ -79,7 +79,34 @@ impl Telling {
         let [f0, f1, f2, f3] = self.number.to_be_bytes();
         let [g0, g1, g2, g3] = self.given.to_be_bytes();
         [
-            a0, a1, a2, a3, b0, b1, b2, b3, c0, c1, c2, c3, d0, d1, d2, d3, e0, e1, e2, e3, f0, f1, f2, f3, g0, g1, g2, g3,
+            a0,
+            a1,
+            a2,
+            a3,
+            b0,
+            b1,
+            b2,
+            b3,
+            c0,
+            c1,
+            c2,
+            c3,
+            d0,
+            d1,
+            d2,
+            d3,
+            e0,
+            e1,
+            e2,
+            e3,
+            f0,
+            f1,
+            f2,
+            f3,
+            g0,
+            g1,
+            g2,
+            g3,
         ]
     }
 }

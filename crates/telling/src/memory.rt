@@ -46,5 +46,4 @@ impl Telling {
 // A telling that was stored is loaded back, and every other part of the memory is as it was.
 pub fn parts_apart()
     ensures { λ _. ⌜ Parts-apart ⌝ }
-{
-}
+{}

@@ -1,6 +1,6 @@
 // What is refused, by its number.
 ghost use mathlib.Core.Path.{_≡_};
-ghost use Rattle.telling.specs.Refusals.{numberOf};
+ghost use Rattle.telling.specs.Refusals.{refusalNumber};
 
 #[derive(Clone, Copy, PartialEq, Eq, Debug)]
 pub enum Refusal {
@@ -10,13 +10,13 @@ pub enum Refusal {
     NoWire = 2,
     // a memory of another size
     Memory = 3,
-    // arguments, a file or a line that are not as they have to be
+    // bad arguments, or a line that is not of the format
     Input = 4,
 }
 
 impl Refusal {
     pub fn number(self) -> u8
-        ensures { λ r. ⌜ r ≡ numberOf self ⌝ }
+        ensures { λ r. ⌜ r ≡ refusalNumber self ⌝ }
     {
         self as u8
     }

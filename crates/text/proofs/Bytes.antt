@@ -8,14 +8,14 @@ use Rattle.std.specs.declared.option.Option.{Option}
 use Rattle.std.specs.declared.option.Option.the-variants.{Some, None}
 use Rattle.std.proofs.shelf.Lists.{at-drop-more, at-drop-all, take-rest}
 use Rattle.std.proofs.shelf.Ways.{tells}
-use Rattle.text.specs.Hex.{hexDigit, hexOf, hexValue, joinDigits, withByte, bytesOf, Reads-back, Written-so}
+use Rattle.text.specs.Hex.{hexDigit, hexOf, hexValue, joinDigits, withFirst, bytesOf, Reads-back, Written-so}
 
--- bytes that were read, in front of those that are yet to be read
+-- what was read, in front of what is yet to be read
 abbrev pub behind : List ℕ → Option (List ℕ) → Option (List ℕ)
 behind front None = None
 behind front (Some bs) = Some (front ++ bs)
 
-behind-more : (front : List ℕ) (b : ℕ) (o : Option (List ℕ)) → behind front (withByte (Some b) o) ≡ behind (front ++ b ∷ []) o
+pub behind-more : (front : List ℕ) (b : ℕ) (o : Option (List ℕ)) → behind front (withFirst (Some b) o) ≡ behind (front ++ b ∷ []) o
 behind-more front b None = refl
 behind-more front b (Some bs) = ap Some (sym (append-assoc front (b ∷ []) bs))
 
@@ -37,7 +37,7 @@ byte-so : (h l b : ℕ) → (65 ≤ h → 70 < h) → (65 ≤ l → 70 < l) → 
 byte-so h l b lowh lowl e = grind (arith, tells)
 
 -- what stood in front, and what behind
-parts : (o : Option ℕ) (p : Option (List ℕ)) (bs : List ℕ) → withByte o p ≡ Some bs → (b : ℕ) × (ds : List ℕ) × (o ≡ Some b) × (p ≡ Some ds) × (bs ≡ b ∷ ds)
+parts : (o : Option ℕ) (p : Option (List ℕ)) (bs : List ℕ) → withFirst o p ≡ Some bs → (b : ℕ) × (ds : List ℕ) × (o ≡ Some b) × (p ≡ Some ds) × (bs ≡ b ∷ ds)
 parts None p bs e = let z : _≡_ {A = ℕ} 0 1 = cc in absurd (omega arith)
 parts (Some b) None bs e = let z : _≡_ {A = ℕ} 0 1 = cc in absurd (omega arith)
 parts (Some b) (Some ds) bs e = (b, ds, refl, refl, cc)

@@ -7,6 +7,7 @@ use lib.Dec.{leb, ltb}
 use Rattle.std.specs.Vec.{Every}
 use Rattle.std.specs.declared.option.Option.{Option}
 use Rattle.std.specs.declared.option.Option.the-variants.{Some, None}
+use Rattle.text.specs.Decimal.{isDigit}
 
 -- the digit of a number below 16: '0' to '9', and then 'a' to 'f'
 abbrev pub hexDigit : ℕ → ℕ
@@ -20,7 +21,7 @@ hexOf (b ∷ bs) = hexDigit (b / 16) ∷ hexDigit (b % 16) ∷ hexOf bs
 -- the number of a digit that is read: '0' to '9', 'a' to 'f' or 'A' to 'F'
 abbrev pub hexValue : ℕ → Option ℕ
 hexValue c =
-    cond (leb 48 c && leb c 57) (Some (c - 48))
+    cond (isDigit c) (Some (c - 48))
     (cond (leb 97 c && leb c 102) (Some (c - 87))
     (cond (leb 65 c && leb c 70) (Some (c - 55)) None))
 
@@ -30,17 +31,17 @@ joinDigits None low = None
 joinDigits (Some h) None = None
 joinDigits (Some h) (Some l) = Some (h * 16 + l)
 
--- a byte in front of others, where both are there
-abbrev pub withByte : Option ℕ → Option (List ℕ) → Option (List ℕ)
-withByte None bs = None
-withByte (Some b) None = None
-withByte (Some b) (Some bs) = Some (b ∷ bs)
+-- one in front of others, where both are there
+abbrev pub withFirst : Option ℕ → Option (List ℕ) → Option (List ℕ)
+withFirst None bs = None
+withFirst (Some b) None = None
+withFirst (Some b) (Some bs) = Some (b ∷ bs)
 
 -- the bytes that digits write: none where a digit is left over or a byte is no digit
 unfoldable pub bytesOf : List ℕ → Option (List ℕ)
 bytesOf [] = Some []
 bytesOf (c ∷ []) = None
-bytesOf (h ∷ l ∷ cs) = withByte (joinDigits (hexValue h) (hexValue l)) (bytesOf cs)
+bytesOf (h ∷ l ∷ cs) = withFirst (joinDigits (hexValue h) (hexValue l)) (bytesOf cs)
 
 -- what is written is read back
 abbrev pub Reads-back : Type 0

@@ -97,11 +97,9 @@ fn hex_value(c: u8) -> Option<u8>
 pub fn line_of(read: &[u8]) -> &[u8]
     ensures { λ r. ⌜ now r ≡ lineOf (now (read .entry)) ⌝ }
 {
-    let long = read.len();
-    if long > 0 && read[long - 1] == b'\n' {
-        &read[0..long - 1]
-    } else {
-        read
+    match read {
+        [line @ .., b'\n'] => line,
+        _ => read,
     }
 }
 

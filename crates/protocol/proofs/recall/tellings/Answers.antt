@@ -16,7 +16,8 @@ loop-k-again c =
     let memory = c .args .memory .now in
     let has : ltb (c .loop-k .k) (length memory / 28) ≡ true = lt-ltb _ _ (omega (arith, c .pre)) in
     let here : c .unwrap-or .result ≡ tellingOf (partOf memory (c .loop-k .k)) =
-      c .unwrap-or .ensures ∙ ap (λ o. valueOr o nothing) (c .load .ensures ∙ cond-true _ _ _ has) in
-    let inside : c .loop-k .k < length (c .loop-k .heard) = omega (arith, c .loop-k .inv .1, c .pre) in
-    (written-more (c .loop-k .heard) (c .loop-k .k) (c .unwrap-or .result) nothing (λ j t. t ≡ tellingOf (partOf memory j)) inside (c .loop-k .inv .0) here,
-    simp length-set (c .loop-k .inv .1))
+    c .unwrap-or .ensures ∙ ap (λ o. valueOr o nothing) (c .load .ensures ∙ cond-true _ _ _ has) in
+    let inside : c .loop-k .k < length (c .loop-k .heard) = omega (arith, c .loop-k .inv .1, c .pre) in (
+      written-more (c .loop-k .heard) (c .loop-k .k) (c .unwrap-or .result) nothing (λ j t. t ≡ tellingOf (partOf memory j)) inside (c .loop-k .inv .0) here,
+      simp length-set (c .loop-k .inv .1),
+    )

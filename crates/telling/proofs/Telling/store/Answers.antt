@@ -14,4 +14,5 @@ pub returns : need.returns
 returns c =
     record {
       test = sym (lt-ltb _ _ (c .if-k-memory .left));
-      after = search (needs, overwrites) }
+      after = search (needs, overwrites);
+    }

@@ -5,7 +5,7 @@ use lib.ListN.{length}
 use Rattle.telling.specs.Readings.{readingOf}
 use Rattle.protocol.specs.Rows.{remembered}
 use Rattle.protocol.specs.Hearing.{afterHearing, hearingOf}
-use Rattle.protocol.proofs.Wires.{wire-there, wire-missing, recalled-there, recalled-missing}
+use Rattle.protocol.proofs.Wires.{wire-there, wire-missing, replaced-there, replaced-missing}
 use Rattle.protocol.proofs.state.Lamp.hear.Needs as need
 
 pub returns-in-rest-wire-to : need.returns-in-rest-wire-to
@@ -16,10 +16,11 @@ returns-in-rest-wire-to c =
     record {
       site = refl;
       last = refl;
-      row = sym (recalled-missing (lamp .site) from none (lamp .heard) (c .in-Told .said)) ∙ ap (λ r. afterHearing r from (remembered lamp)) (c .in-Told .ensures tt);
+      row = sym (replaced-missing (lamp .site) from none (lamp .heard) (c .in-Told .said)) ∙ ap (λ r. afterHearing r from (remembered lamp)) (c .in-Told .ensures tt);
       same = refl;
       refused =
-        ap (λ r. hearingOf r false) (c .in-Told .ensures tt) ∙ ap (hearingOf (readingOf (c .args .frame .now))) (sym (wire-missing (lamp .site) from none)) }
+          ap (λ r. hearingOf r false) (c .in-Told .ensures tt) ∙ ap (hearingOf (readingOf (c .args .frame .now))) (sym (wire-missing (lamp .site) from none));
+    }
 
 pub returns : need.returns
 returns c =
@@ -31,9 +32,10 @@ returns c =
       site = refl;
       last = refl;
       row =
-        sym (recalled-there (lamp .site) from (c .in-Some .k) wire (lamp .heard) heard (c .in-Told .said)) ∙
-        ap (λ r. afterHearing r from (remembered lamp)) (c .in-Told .ensures tt);
+          sym (replaced-there (lamp .site) from (c .in-Some .k) wire (lamp .heard) heard (c .in-Told .said)) ∙
+          ap (λ r. afterHearing r from (remembered lamp)) (c .in-Told .ensures tt);
       same = tt;
       refused =
-        ap (λ r. hearingOf r true) (c .in-Told .ensures tt) ∙
-        ap (hearingOf (readingOf (c .args .frame .now))) (sym (wire-there (lamp .site) from (c .in-Some .k) wire)) }
+          ap (λ r. hearingOf r true) (c .in-Told .ensures tt) ∙
+          ap (hearingOf (readingOf (c .args .frame .now))) (sym (wire-there (lamp .site) from (c .in-Some .k) wire));
+    }

@@ -6,8 +6,8 @@ use native.Mathlib.Omega.{arith}
 use lib.ListN.{length, take, drop}
 use mathlib.Core.List.{_++_}
 use Rattle.std.specs.Of.Vec.{vec-len}
-use Rattle.std.specs.Options.{Cases}
-use Rattle.std.specs.declared.option.Option.the-variants.{None}
+use Rattle.std.specs.Results.{Cases}
+use Rattle.std.specs.declared.result.Result.the-variants.{Ok}
 use Rattle.std.proofs.shelf.Lists.{take-at}
 use Rattle.std.proofs.shelf.Tests.{eq-eqb, cond-true}
 use Rattle.telling.specs.Layout.{partOf}
@@ -25,6 +25,6 @@ returns c =
     let long : length after ≡ 28 * wires = omega (arith, c .store .kept .memory) in
     let whole : take (vec .len) (after ++ drop (length after) (vec .items)) ≡ after = take-at after _ (vec .len) (omega arith) in
     let right : isMemory wires (c .as-mut-slice .result .now) ≡ true = eq-eqb _ _ lent in
-    let none : c .store .result ≡ None = c .store .ensures .refusal ∙ cond-true _ _ _ right in
-    let holds : Holds after (lamp .heard) wires = subst (λ o. Cases o (Holds after (lamp .heard) wires) (λ _. after ≡ c .as-mut-slice .result .now)) none (c .store .ensures .after) in
+    let done : c .store .result ≡ Ok tt = c .store .ensures .refusal ∙ cond-true _ _ _ right in
+    let holds : Holds after (lamp .heard) wires = subst (λ o. Cases o (λ _. Holds after (lamp .heard) wires) (λ _. after ≡ c .as-mut-slice .result .now)) done (c .store .ensures .after) in
     (ap length whole ∙ long, λ k h. ap (λ m. partOf m k) whole ∙ holds k h)

@@ -16,4 +16,5 @@ returns c =
       site = refl;
       heard = refl;
       numbers = ap Some (c .numbers-numbers .ensures ∙ ap (λ b. numbersOf (lamp .site .own) b (remembered lamp)) (c .best-best .ensures));
-      wires = ap Some (told-row lamp heard (c .best-best .result) (c .numbers-numbers .result) (c .best-best .ensures) (c .numbers-numbers .ensures) (c .given-given .result) given (c .given-given .ensures)) }
+      wires = ap Some (told-row lamp heard (c .best-best .result) (c .numbers-numbers .result) (c .best-best .ensures) (c .numbers-numbers .ensures) (c .given-given .result) given (c .given-given .ensures));
+    }
