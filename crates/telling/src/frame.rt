@@ -10,9 +10,10 @@ use super::refusal::Refusal;
 
 // How many bytes a frame has.
 pub const FRAME: usize = 30;
-// The first of them, and where the last of them stands: the check of all before it.
+// The first of them.
 const FIRST: u8 = 76;
 
+// Where the last of them stands: the check of all before it.
 const CHECK: usize = 29;
 
 // What reading a frame comes to.
