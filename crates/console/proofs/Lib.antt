@@ -1,6 +1,5 @@
 -- Lemmas on the definitions of specs/.
 pub mod Lines
 pub mod Numbers
-pub mod Places
 pub mod Sites
 mod Texts

@@ -1,5 +1,4 @@
 -- What a program is told.
 pub mod Arguments
 pub mod Lines
-pub mod Places
 pub mod Answers

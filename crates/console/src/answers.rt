@@ -108,7 +108,7 @@ fn line_text(heap: Global, answer: Answer) -> Result<String, AllocError>
     }
 }
 
-fn refusal_text(heap: Global, refusal: Refusal) -> Result<String, AllocError>
+pub fn refusal_text(heap: Global, refusal: Refusal) -> Result<String, AllocError>
     ensures { λ r. ⌜ made r (λ t. string-bytes t ≡ refusalText refusal) ⌝ }
 {
     let number = refusal.number();
@@ -122,7 +122,7 @@ fn frame_text(heap: Global, place: u32, frame: &[u8]) -> Result<String, AllocErr
     format!(heap, "{place} {hex}\n")
 }
 
-fn numbers_text(heap: Global, numbers: Numbers) -> Result<String, AllocError>
+pub fn numbers_text(heap: Global, numbers: Numbers) -> Result<String, AllocError>
     ensures { λ r. ⌜ made r (λ t. string-bytes t ≡ numbersText numbers) ⌝ }
 {
     let Numbers {

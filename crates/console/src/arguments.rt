@@ -6,12 +6,12 @@ ghost use Rattle.std.specs.Of.Vec.{vec-items};
 ghost use Rattle.std.specs.Options.{mapped};
 ghost use Rattle.std.specs.Vec.{made};
 ghost use Rattle.console.specs.Arguments.{numbersIn, siteFrom, siteOf, Site-or-refusal};
-ghost use Rattle.console.specs.Places.{withPlace, risingOf, Rise-from, Rising-and-whole};
 use super::fault::Fault;
 use super::fault::FaultFromAlloc;
 use super::fault::FaultFromRefusal;
 use protocol::facts::Own;
 use protocol::facts::Site;
+use protocol::places::rising;
 use std::alloc::AllocError;
 use std::alloc::Global;
 use telling::refusal::Refusal;
@@ -55,36 +55,6 @@ fn site_from(heap: Global, numbers: &[u32]) -> Result<Site, Fault>
     let places = rising(heap, named)?;
     Ok(Site::new(own, places.as_slice())?)
 }
-
-// The places that are named, by rising place, each once.
-fn rising(heap: Global, named: &[u32]) -> Result<Vec<u32>, AllocError>
-    ensures { λ r. ⌜ made r (λ places. vec-items places ≡ risingOf (now (named .entry))) ⌝ }
-{
-    let mut places = Vec::new(heap);
-    for place in named {
-        put(&mut places, *place)?;
-    }
-    Ok(places)
-}
-
-// Puts a place among rising ones, unless it is there.
-fn put(places: &mut Vec<u32>, place: u32) -> Result<(), AllocError>
-    requires { ⌜ Rise-from 0 (vec-items (now places)) ⌝ }
-    ensures { λ r. ⌜ made r (λ _. vec-items (now (places .exit)) ≡ withPlace (vec-items (now (places .entry))) place) ⌝ }
-{
-    match places.as_slice().binary_search(&place) {
-        Ok(_) => Ok(()),
-        Err(i) => {
-            places.insert(i, place)?;
-            Ok(())
-        }
-    }
-}
-
-// The places of a site rise, and are those that were named and no others.
-pub fn places_are_those_named()
-    ensures { λ _. ⌜ Rising-and-whole ⌝ }
-{}
 
 #[cfg(test)]
 mod tests {
@@ -134,19 +104,6 @@ mod tests {
         ] {
             let answer = site(rt.alloc(), line)?;
             check(matches!(answer, Err(Fault::Refused(Refusal::Input)))).note(line)?;
-        }
-        Ok(())
-    }
-
-    #[test]
-    fn places(rt: LibcRuntime) -> Result<(), Fail> {
-        for (named, places) in [
-            ([].as_slice(), [].as_slice()),
-            ([8, 0, 3, 3, 8].as_slice(), [0, 3, 8].as_slice()),
-            ([1, 2, 3].as_slice(), [1, 2, 3].as_slice()),
-            ([5, 4, 5, 9, 4].as_slice(), [4, 5, 9].as_slice()),
-        ] {
-            check_eq(rising(rt.alloc(), named)?.as_slice(), places)?;
         }
         Ok(())
     }

@@ -1,5 +1,6 @@
+pub mod Named
 mod Rising
-mod Writes
+pub mod Writes
 pub mod Rows
 pub mod Wires
 pub mod Siblings

@@ -61,8 +61,21 @@ impl Site {
         Ok(Site { own, wires, places })
     }
 
+    pub fn own(&self) -> Own
+        ensures { λ r. ⌜ r ≡ now (self .entry) .own ⌝ }
+    {
+        self.own
+    }
+
+    // The places that the lamp is wired to, by rising place.
+    pub fn places(&self) -> &[u32]
+        ensures { λ r. ⌜ now r ≡ placesOf (now (self .entry)) ⌝ }
+    {
+        &self.places[0..self.wires]
+    }
+
     // The wire to a place.
-    pub(crate) fn wire_to(&self, place: u32) -> Option<usize>
+    pub fn wire_to(&self, place: u32) -> Option<usize>
         ensures { λ r. ⌜ BySome r (No-wire (now (self .entry)) place) (λ k. Wire (now (self .entry)) place k) ⌝ }
     {
         for k in 0..self.wires {

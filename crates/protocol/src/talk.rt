@@ -1,6 +1,5 @@
 // Hearing and telling, in frames.
 ghost use mathlib.Core.Path.{_≡_};
-ghost use Prim.Native.Nat.{_<_};
 ghost use lib.ListN.{getD, replicate};
 ghost use Rattle.std.specs.declared.option.Option.the-variants.{None};
 ghost use Rattle.telling.specs.Readings.{readingOf};
@@ -21,8 +20,7 @@ use telling::refusal::Refusal;
 
 impl Work {
     // What lies on the k-th wire.
-    fn telling(&self, k: usize) -> Telling
-        requires { ⌜ k < 16 ⌝ }
+    pub fn telling(&self, k: usize) -> Telling
         ensures { λ r. ⌜ r ≡ tellingWith (now (self .entry) .numbers) (getD (now (self .entry) .given) k 0) ⌝ }
     {
         let Numbers {
@@ -40,7 +38,7 @@ impl Work {
             size,
             total,
             number,
-            given: self.given[k],
+            given: if k < WIRES { self.given[k] } else { 0 },
         }
     }
 }
@@ -57,11 +55,29 @@ impl Lamp {
         }
     }
 
+    // A lamp that has heard this, by wire, and has not worked yet.
+    pub fn remembering(site: Site, heard: [Telling; WIRES]) -> Lamp
+        ensures { λ r. ⌜ r ≡ record { site = site; heard = heard; last = None } ⌝ }
+    {
+        Lamp {
+            site,
+            heard,
+            last: None,
+        }
+    }
+
     // The places that the lamp is wired to, by rising place.
     pub fn places(&self) -> &[u32]
         ensures { λ r. ⌜ now r ≡ placesOf (now (self .entry) .site) ⌝ }
     {
-        &self.site.places[0..self.site.wires]
+        self.site.places()
+    }
+
+    // What the last work came to, none before the first.
+    pub fn worked(&self) -> Option<Work>
+        ensures { λ r. ⌜ r ≡ now (self .entry) .last ⌝ }
+    {
+        self.last
     }
 
     // The numbers worked out last, none before the first work.

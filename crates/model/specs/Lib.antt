@@ -1,0 +1,5 @@
+pub mod Halls
+pub mod Nets
+pub mod Rounds
+pub mod Assignment
+pub mod Promise

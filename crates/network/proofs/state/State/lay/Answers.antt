@@ -1,0 +1,34 @@
+use mathlib.Core.Path.{_≡_, refl, sym, ap, _∙_}
+use borrow.Author.Needs.{needs}
+use native.Mathlib.Omega.{arith}
+use Prim.Native.Nat.{_<_}
+use lib.ListN.{length, length-set}
+use Rattle.telling.specs.declared.frame.Reading.the-variants.{Told, Noise}
+use Rattle.network.proofs.Tables.{slot-wired, slot-below, reading-told, reading-others}
+use Rattle.network.proofs.Changes.{same-wires, other-wires}
+use Rattle.network.proofs.state.State.lay.Needs as need
+
+pub put-telling-requires : need.put-telling-requires
+put-telling-requires c κs = omega (arith, slot-below (c .args .hall .now) (c .in-Some .ensures tt), c .pre .wires)
+
+pub offset-self-slot : need.offset-self-slot
+offset-self-slot c =
+    let inside : c .in-Some .slot < length (c .args .self .now .noise .now) = omega (arith, slot-below (c .args .hall .now) (c .in-Some .ensures tt), c .pre .noise) in
+    search needs
+
+pub index-self-slot : need.index-self-slot
+index-self-slot c = omega (arith, slot-below (c .args .hall .now) (c .in-Some .ensures tt), c .pre .noise)
+
+pub returns : need.returns
+returns c =
+    let slot = c .in-Some .ensures tt in
+    let noise = c .args .self .now .noise .now in
+    let inside : c .in-Some .slot < length noise = omega (arith, slot-below (c .args .hall .now) slot, c .pre .noise) in
+    other-wires (c .args .hall .now) (c .args .self .now) (c .pre) _ refl refl (c .put-telling .ensures .long) (length-set noise _ _) (c .args .from) (c .args .to) (c .in-Some .slot) (Told (c .args .said)) slot
+    (reading-told (c .args .self .now .wires .now) (c .put-telling .last .words) noise (c .in-Some .slot) inside (c .args .said) (c .put-telling .ensures))
+    (λ r ne. reading-others (c .args .self .now .wires .now) (c .put-telling .last .words) noise (c .in-Some .slot) inside (c .args .said) r ne (c .put-telling .ensures))
+
+pub returns-in-rest : need.returns-in-rest
+returns-in-rest c =
+    let none = c .in-rest .ensures tt in
+    same-wires (c .args .hall .now) (c .args .self .now) (c .pre) (c .args .from) (c .args .to) (Told (c .args .said)) none

@@ -1,0 +1,15 @@
+// A whole hall: its state in lent words, and what a script does to it.
+mod carrying;
+pub mod commands;
+mod doings;
+pub mod draws;
+mod edits;
+mod fields;
+mod filling;
+pub mod laws;
+mod order;
+pub mod parts;
+pub mod refusals;
+mod slots;
+pub mod state;
+mod words;

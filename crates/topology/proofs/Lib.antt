@@ -1,0 +1,5 @@
+pub mod Ways
+mod Spreads
+mod Loops
+mod Ends
+pub mod Described
