@@ -1,0 +1,3 @@
+-- Lemmas on the definitions of specs/.
+mod Cuts
+mod Shown
