@@ -1,10 +1,8 @@
 // One thing in the state of a hall written, all else left as it was.
 ghost use mathlib.Core.Path.{_≡_};
 ghost use Prim.Native.Nat.{_+_, _*_, _<_, _≤_};
-ghost use lib.Dec.{ltb};
 ghost use lib.ListN.{length};
 ghost use Rattle.network.specs.Words.{readingIn};
-ghost use Rattle.model.specs.Halls.{isWired};
 ghost use Rattle.model.specs.Nets.{remembering, laid, noted};
 ghost use Rattle.telling.specs.declared.frame.Reading.the-variants.{Told, Noise};
 ghost use Rattle.topology.specs.Reading.{hallOf};

@@ -1,7 +1,5 @@
 // Filling: all numbers of a hall are drawn.
-ghost use mathlib.Core.Path.{_≡_};
 ghost use Rattle.topology.specs.Reading.{hallOf};
-ghost use Rattle.model.specs.Nets.{Net};
 ghost use Rattle.network.specs.Stands.{Roomy, Becomes, Becomes-drawn};
 ghost use Rattle.network.specs.Effects.{drawn, filled, allFilled};
 use super::draws::Draws;

@@ -2,13 +2,13 @@
 mod carrying;
 pub mod commands;
 mod doings;
-pub mod draws;
+mod draws;
 mod edits;
 mod fields;
 mod filling;
 pub mod laws;
 mod order;
-pub mod parts;
+mod parts;
 pub mod refusals;
 mod slots;
 pub mod state;

@@ -1,10 +1,13 @@
 // All doings of a hall, and the order of a round.
 ghost use mathlib.Core.List.{_++_, map};
 ghost use mathlib.Core.Path.{_≡_};
+ghost use Prim.Native.Nat.{_+_, _%_, _<_};
+ghost use lib.ListN.{length};
 ghost use Rattle.std.specs.Of.Vec.{vec-items};
+ghost use Rattle.std.specs.Slices.{exchanged};
 ghost use Rattle.std.specs.Vec.{made};
-ghost use Rattle.std.specs.shelf.Lists.{joined};
 ghost use Rattle.model.specs.declared.Doing.the-variants.{Work};
+ghost use Rattle.network.specs.Sequence.{nextOf, drawAt};
 ghost use Rattle.network.specs.Order.{hearingsOf, doingsIn, orderOf};
 use super::draws::Draws;
 use model::Doing;
@@ -44,13 +47,22 @@ pub(crate) fn all_doings(heap: Global, sites: &[Site]) -> Result<Vec<Doing>, All
     Ok(doings)
 }
 
+// Exchanges an entry with the one at a draw modulo how many there are up to it.
+fn exchange(doings: &mut [Doing], k: usize, draws: &mut Draws)
+    requires { ⌜ k < length (now doings) ⌝ }
+    ensures after { λ _. ⌜ now (doings .exit) ≡ exchanged (now (doings .entry)) k (drawAt (nextOf (now (draws .entry) .state)) % (k + 1)) ⌝ }
+    ensures next { λ _. ⌜ now (draws .exit) .state ≡ nextOf (now (draws .entry) .state) ⌝ }
+{
+    let other = draws.draw() as usize % (k + 1);
+    doings.swap(k, other);
+}
+
 // Puts doings into the order that a seed gives.
 pub(crate) fn shuffle(doings: &mut [Doing], seed: u32)
     ensures { λ _. ⌜ now (doings .exit) ≡ orderOf seed (now (doings .entry)) ⌝ }
 {
     let mut draws = Draws { state: seed };
     for k in (0..doings.len()).rev() {
-        let other = draws.draw() as usize % (k + 1);
-        doings.swap(k, other);
+        exchange(doings, k, &mut draws);
     }
 }

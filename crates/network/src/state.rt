@@ -1,6 +1,7 @@
 // The state of a whole hall.
 
 // All that changes in a hall, in words that somebody lends.
+#[derive(Drop)]
 pub struct State<'m, 'w, 'n, 'l> {
     // what is remembered, seven words by slot
     pub memories: &'m mut [u32],

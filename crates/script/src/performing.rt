@@ -42,7 +42,13 @@ pub fn show_text(heap: Global, hall: &Topology, state: &State) -> Result<String,
 }
 
 // All that is printed for a command, by how it was refused.
-pub fn answer_text(heap: Global, hall: &Topology, state: &State, command: Command, refusal: Option<Refusal>) -> Result<String, AllocError>
+pub fn answer_text(
+    heap: Global,
+    hall: &Topology,
+    state: &State,
+    command: Command,
+    refusal: Option<Refusal>,
+) -> Result<String, AllocError>
     ensures { λ r. ⌜ made r (λ t. string-bytes t ≡ answerText (now (hall .entry)) (now (state .entry)) command refusal) ⌝ }
 {
     if let Some(refusal) = refusal {
@@ -63,7 +69,13 @@ fn report(rt: &LibcRuntime, done: usize, all: usize) {
 }
 
 // Carries out a script, command by command, and prints what there is to be printed, before the next one is looked at.
-pub fn perform(rt: &LibcRuntime, hall: &Topology, state: &mut State, script: &[Command], progress: bool) -> io::Result<()>
+pub fn perform(
+    rt: &LibcRuntime,
+    hall: &Topology,
+    state: &mut State,
+    script: &[Command],
+    progress: bool,
+) -> io::Result<()>
     ensures { λ r. ⌜ made r (λ _. (isRoomy (hallOf (now (hall .entry))) (now (state .entry)) ≡ true → Becomes (hallOf (now (hall .entry))) (now (state .entry)) (now (state .exit)) (performed (hallOf (now (hall .entry))) (vec-items (now (hall .entry) .sites)) (now (script .entry))))) ⌝ }
 {
     for (k, command) in script.iter().enumerate() {

@@ -1,9 +1,9 @@
 -- What holds of every hall that lines describe.
 use mathlib.Core.Bool.{Bool, true, false}
-use mathlib.Core.List.{List, [], _∷_, map}
+use mathlib.Core.List.{List, []}
 use mathlib.Core.Logic.{⊎-elim}
-use mathlib.Core.Path.{_≡_, refl, sym, ap, subst, _∙_}
-use Prim.Native.Nat.{ℕ, zero, suc, _+_, _<_, _≤_}
+use mathlib.Core.Path.{_≡_, sym, ap, subst, _∙_}
+use Prim.Native.Nat.{ℕ, zero, suc, _<_, _≤_}
 use native.Mathlib.Omega.{arith}
 use lib.ListN.{length, getD}
 use Rattle.std.specs.Of.Vec.{vec-items}
@@ -19,7 +19,6 @@ use Rattle.protocol.specs.Wiring.{isSound}
 use Rattle.protocol.proofs.Named.{rising-and-whole}
 use Rattle.model.specs.Halls.{Hall, Way, stay, step, isWired, ownOf, Sound, Names-differ, Wires-within, Wired-both-ways, Hang-together}
 use Rattle.topology.specs.declared.lines.Line.{Line}
-use Rattle.topology.specs.declared.hall.Topology.{Topology}
 use Rattle.topology.specs.Lamps.{hallIn, Placed, Of-most}
 use Rattle.topology.specs.Files.{namesIn, endsAt, placesAt, Ends-below, Describes, Breaks}
 use Rattle.topology.specs.Checks.{Headed, Apart, Named, Right-ends, Checked, All-sound, Stands}

@@ -1,6 +1,6 @@
 -- A pass that reaches lamps whose neighbours are reached.
 use mathlib.Core.Bool.{Bool, true, false, cond, not, _&&_, _||_}
-use mathlib.Core.List.{List, [], _∷_, map}
+use mathlib.Core.List.{List, [], _∷_}
 use mathlib.Core.Logic.{_⊎_, ⊎-elim}
 use mathlib.Core.Path.{_≡_, refl, sym, ap, subst, _∙_}
 use Prim.Native.Nat.{ℕ, zero, suc, _+_, _<_, _≤_}
@@ -10,7 +10,7 @@ use lib.Dec.{eqb}
 use lib.ListN.{length, getD, set, drop, replicate}
 use Rattle.std.specs.Orderings.{Decides}
 use Rattle.std.specs.Places.{Some-of}
-use Rattle.std.proofs.shelf.Lists.{at-drop-more, at-drop-all, getD-read, getD-map, getD-set-same, getD-set-other, length-set, getD-default, length-replicate, getD-replicate, getD-past}
+use Rattle.std.proofs.shelf.Lists.{at-drop-more, at-drop-all, getD-read, getD-map, getD-set-same, getD-set-other, length-set, length-replicate, getD-replicate, getD-past}
 use Rattle.std.proofs.shelf.Sums.{sumBy-set}
 use Rattle.std.proofs.shelf.Tests.{or-cases, or-left, or-right, eqb-true, eq-eqb, and-parts, not-true, cases-eq, cases-lt, cases-bool, both-ways}
 use Rattle.protocol.specs.declared.facts.Site.{Site}
@@ -18,7 +18,7 @@ use Rattle.protocol.specs.Rows.{hasWire, placesOf}
 use Rattle.model.specs.Halls.{Hall, Way, stay, step, isWired, Wires-within, Wired-both-ways, Hang-together}
 use Rattle.model.specs.Assignment.{anyOf}
 use Rattle.topology.specs.Lamps.{hallIn}
-use Rattle.topology.specs.Reach.{isReached, touches, isNext, withNext, Reachable, None-next, unreached, Spread, Whether-joined}
+use Rattle.topology.specs.Reach.{isReached, isNext, withNext, Reachable, None-next, unreached, Spread, Whether-joined}
 use Rattle.topology.proofs.Ways.{join-ways, way-within, turn-way}
 
 -- a place of a list that passes a test

@@ -1,15 +1,8 @@
 -- Ways over wires: joined, turned round, and within the hall.
-use mathlib.Core.Bool.{Bool, true, false, _||_}
-use mathlib.Core.List.{List, [], _∷_}
-use mathlib.Core.Logic.{⊎-elim}
-use mathlib.Core.Path.{_≡_, refl, sym, ap, subst, _∙_}
-use Prim.Native.Nat.{ℕ, zero, suc, _+_, _<_, _≤_}
-use native.Mathlib.Omega.{arith}
-use lib.Dec.{eqb}
-use Rattle.std.proofs.shelf.Tests.{or-cases, or-left, or-right, eqb-true, eq-eqb}
-use Rattle.protocol.specs.Rows.{hasWire}
-use Rattle.model.specs.Halls.{Hall, Way, stay, step, isWired, Wires-within, Wired-both-ways, Hang-together}
-use Rattle.model.specs.Assignment.{anyOf}
+use mathlib.Core.Bool.{true}
+use mathlib.Core.Path.{_≡_}
+use Prim.Native.Nat.{ℕ, zero, suc, _<_}
+use Rattle.model.specs.Halls.{Hall, Way, stay, step, isWired, Wires-within, Wired-both-ways}
 
 module _ (h : Hall) where
   -- one wire

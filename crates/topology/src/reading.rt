@@ -45,13 +45,6 @@ impl Topology {
         Ok(Topology { most, sites })
     }
 
-    // As many lamps as the hall may have.
-    pub fn most(&self) -> u32
-        ensures { λ r. ⌜ r ≡ now (self .entry) .most ⌝ }
-    {
-        self.most
-    }
-
     // The lamps, in order of places.
     pub fn sites(&self) -> &[Site]
         ensures { λ r. ⌜ now r ≡ vec-items (now (self .entry) .sites) ⌝ }

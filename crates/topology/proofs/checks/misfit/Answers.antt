@@ -1,5 +1,4 @@
 use mathlib.Core.Path.{sym, _∙_}
-use native.Mathlib.Omega.{arith}
 use Rattle.topology.proofs.Loops.{fit-more, fit-stop}
 use Rattle.topology.proofs.checks.misfit.Needs as need
 

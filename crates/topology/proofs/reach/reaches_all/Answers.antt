@@ -1,8 +1,7 @@
 use mathlib.Core.Bool.{true, false}
-use mathlib.Core.Path.{_≡_, refl, sym, ap, subst, _∙_}
-use Prim.Native.Nat.{ℕ}
+use mathlib.Core.Path.{_≡_, sym, ap, subst, _∙_}
 use native.Mathlib.Omega.{arith}
-use lib.ListN.{length, set, replicate}
+use lib.ListN.{length, set}
 use Rattle.std.proofs.shelf.Lists.{length-set, length-replicate}
 use Rattle.topology.specs.Lamps.{hallIn}
 use Rattle.topology.specs.Reach.{isReached, Reachable}

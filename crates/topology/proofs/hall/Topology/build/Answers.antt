@@ -1,6 +1,5 @@
 use mathlib.Core.Path.{sym, subst}
 use native.Mathlib.Omega.{arith}
-use Rattle.std.specs.Of.Vec.{vec-items}
 use Rattle.std.proofs.shelf.Results.{cases-at-some, cases-at-none}
 use Rattle.topology.specs.Checks.{Stands}
 use Rattle.topology.proofs.Described.{breaks-sites, breaks-joined, when-joined, described-within, described-both, stands-some, stands-few, stands-placed, stands-of-most, stands-described, stands-differ}
