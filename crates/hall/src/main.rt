@@ -105,7 +105,7 @@ fn words(rt: &LibcRuntime) -> Result<Vec<String>, Stop> {
 fn arguments(rt: &LibcRuntime) -> Result<Asked, Stop> {
     let words = words(rt)?;
     match words.as_slice() {
-        [path] => Ok(Asked {
+        [path] if path.as_str() != "--progress" => Ok(Asked {
             path: path.clone()?,
             progress: false,
         }),

@@ -4,6 +4,4 @@ pub mod halls;
 mod lines;
 pub mod orders;
 pub mod performing;
-#[cfg(test)]
-mod tests;
 mod words;

@@ -19,7 +19,7 @@ pub trait Said: Sized {
 }
 
 // What each line of a text says.
-pub fn each_line<T: Said + Drop>(heap: Global, text: &[u8]) -> Result<Vec<T>, AllocError>
+pub(crate) fn each_line<T: Said + Drop>(heap: Global, text: &[u8]) -> Result<Vec<T>, AllocError>
     ensures { λ r. ⌜ made r (λ v. vec-items v ≡ map (λ line. T·Said .by (wordsOf line)) (linesOf (now (text .entry)))) ⌝ }
 {
     let mut all = Vec::new(heap);

@@ -5,14 +5,14 @@ ghost use Rattle.text.specs.Decimal.{numberOf};
 ghost use Rattle.script.specs.Words.{both};
 use text::number;
 
-pub fn is(word: &[u8], text: &str) -> bool
+pub(crate) fn is(word: &[u8], text: &str) -> bool
     ensures { λ r. ⌜ r ≡ sameBytes (now (word .entry)) (now (text .entry)) ⌝ }
 {
     word == text.as_bytes()
 }
 
 // The numbers that two words write, where each writes one.
-pub fn two_numbers(first: &[u8], second: &[u8]) -> Option<(u32, u32)>
+pub(crate) fn two_numbers(first: &[u8], second: &[u8]) -> Option<(u32, u32)>
     ensures { λ r. ⌜ r ≡ both (numberOf (now (first .entry))) (numberOf (now (second .entry))) ⌝ }
 {
     Some((number(first)?, number(second)?))
