@@ -6,3 +6,4 @@ mod Works
 mod Lists
 mod Fillings
 mod Rounds
+mod Standing
