@@ -13,7 +13,7 @@ use Rattle.protocol.specs.declared.facts.Site.{Site}
 use Rattle.protocol.specs.Rows.{placesOf}
 use Rattle.protocol.specs.Wiring.{isSound}
 use Rattle.console.specs.Arguments.{ifSound, siteFrom}
-use Rattle.protocol.specs.Places.{risingOf}
+use Rattle.places.specs.Places.{risingOf}
 
 -- the first three of the numbers, and the places that the others name, as the code has them
 abbrev pub ownIn : List ℕ → Own

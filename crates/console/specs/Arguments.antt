@@ -14,7 +14,7 @@ use Rattle.protocol.specs.declared.facts.Own.{Own}
 use Rattle.protocol.specs.declared.facts.Site.{Site}
 use Rattle.protocol.specs.Rows.{placesOf}
 use Rattle.protocol.specs.Wiring.{isSound}
-use Rattle.protocol.specs.Places.{risingOf}
+use Rattle.places.specs.Places.{risingOf}
 use Rattle.console.specs.declared.fault.Fault.{Fault}
 use Rattle.console.specs.declared.fault.Fault.the-variants.{OutOfMemory, Refused}
 

@@ -9,9 +9,9 @@ ghost use Rattle.console.specs.Arguments.{numbersIn, siteFrom, siteOf, Site-or
 use super::fault::Fault;
 use super::fault::FaultFromAlloc;
 use super::fault::FaultFromRefusal;
+use places::rising;
 use protocol::facts::Own;
 use protocol::facts::Site;
-use protocol::places::rising;
 use std::alloc::AllocError;
 use std::alloc::Global;
 use telling::refusal::Refusal;

@@ -1,4 +1,3 @@
-pub mod Named
 mod Rising
 pub mod Writes
 pub mod Rows

@@ -1,6 +1,5 @@
 pub mod Wiring
 pub mod Rows
-pub mod Places
 pub mod Rules
 pub mod Hearing
 pub mod Works

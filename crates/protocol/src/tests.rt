@@ -1,6 +1,5 @@
 use super::facts::Own;
 use super::facts::Site;
-use super::places::rising;
 use super::state::Lamp;
 use super::state::Numbers;
 use super::state::NumbersDebug;
@@ -144,17 +143,4 @@ fn sites_that_break_a_rule() -> Result<(), Fail> {
     let places = [1u32, 2, 3, 4, 5, 6, 7, 8, 9, 10, 11, 12, 13, 14, 15, 16, 17];
     check(lamp(32, 0, 7, &places[0..16]).is_ok())?;
     check(lamp(32, 0, 7, &places).is_err())
-}
-
-#[test]
-fn places(rt: LibcRuntime) -> Result<(), Fail> {
-    for (named, places) in [
-        ([].as_slice(), [].as_slice()),
-        ([8, 0, 3, 3, 8].as_slice(), [0, 3, 8].as_slice()),
-        ([1, 2, 3].as_slice(), [1, 2, 3].as_slice()),
-        ([5, 4, 5, 9, 4].as_slice(), [4, 5, 9].as_slice()),
-    ] {
-        check_eq(rising(rt.alloc(), named)?.as_slice(), places)?;
-    }
-    Ok(())
 }

@@ -16,7 +16,7 @@ use Rattle.protocol.specs.declared.facts.Own.{Own}
 use Rattle.protocol.specs.declared.facts.Site.{Site}
 use Rattle.protocol.specs.Rows.{hasWire, placesOf}
 use Rattle.protocol.specs.Wiring.{isSound}
-use Rattle.protocol.proofs.Named.{rising-and-whole}
+use Rattle.places.proofs.Named.{rising-and-whole}
 use Rattle.model.specs.Halls.{Hall, Way, stay, step, isWired, ownOf, Sound, Names-differ, Wires-within, Wired-both-ways, Hang-together}
 use Rattle.topology.specs.declared.lines.Line.{Line}
 use Rattle.topology.specs.Lamps.{hallIn, Placed, Of-most}

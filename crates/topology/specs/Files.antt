@@ -8,7 +8,7 @@ use lib.ListN.{length, getD}
 use Rattle.std.specs.declared.option.Option.{Option}
 use Rattle.std.specs.declared.option.Option.the-variants.{Some, None}
 use Rattle.std.specs.shelf.Lists.{All, joined}
-use Rattle.protocol.specs.Places.{risingOf}
+use Rattle.places.specs.Places.{risingOf}
 use Rattle.model.specs.Halls.{Hall, Sound}
 use Rattle.topology.specs.declared.lines.Line.{Line}
 use Rattle.topology.specs.declared.lines.Line.the-variants.{Most, Lamp, Wire, Unknown}

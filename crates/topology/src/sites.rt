@@ -11,9 +11,9 @@ ghost use Rattle.protocol.specs.Wiring.{isSound};
 ghost use Rattle.topology.specs.Files.{nameOf, namesIn, otherEnd, endsOf, endsAt, placesAt};
 ghost use Rattle.topology.specs.Checks.{All-sound, Of-lamp, Stands};
 use super::lines::Line;
+use places::rising;
 use protocol::facts::Own;
 use protocol::facts::Site;
-use protocol::places::rising;
 use std::alloc::AllocError;
 use std::alloc::Global;
 

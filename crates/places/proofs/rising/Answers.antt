@@ -3,9 +3,9 @@ use mathlib.Core.Path.{sym, ap, subst, _∙_}
 use lib.ListN.{getD, take}
 use Rattle.std.proofs.shelf.Lists.{take-all}
 use Rattle.std.proofs.shelf.Sums.{folded-more}
-use Rattle.protocol.specs.Places.{withPlace, risingOf, Rise-from}
-use Rattle.protocol.proofs.Named.{rising-and-whole}
-use Rattle.protocol.proofs.places.rising.Needs as need
+use Rattle.places.specs.Places.{withPlace, risingOf, Rise-from}
+use Rattle.places.proofs.Named.{rising-and-whole}
+use Rattle.places.proofs.rising.Needs as need
 
 pub put-requires : need.put-requires
 put-requires c κs =

@@ -2,7 +2,7 @@
 ghost use mathlib.Core.Path.{_≡_};
 ghost use Rattle.std.specs.Of.Vec.{vec-items};
 ghost use Rattle.std.specs.Vec.{made};
-ghost use Rattle.protocol.specs.Places.{withPlace, risingOf, Rise-from, Rising-and-whole};
+ghost use Rattle.places.specs.Places.{withPlace, risingOf, Rise-from, Rising-and-whole};
 use std::alloc::AllocError;
 use std::alloc::Global;
 

@@ -12,8 +12,8 @@ use Rattle.std.specs.shelf.Lists.{folded, inserted}
 use Rattle.std.specs.shelf.Sorted.{unsigned}
 use Rattle.std.proofs.shelf.Sorted.{searched}
 use Rattle.std.proofs.shelf.Tests.{cond-both, ltb-true, ltb-false, eqb-true, eqb-false}
 use Rattle.protocol.specs.Rows.{hasWire}
-use Rattle.protocol.specs.Places.{withPlace, Rise-from, Rising-and-whole}
+use Rattle.places.specs.Places.{withPlace, Rise-from, Rising-and-whole}
 
 -- the three ways to put a place among those that begin with p
 with-cases :

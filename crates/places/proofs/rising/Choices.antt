@@ -1,8 +1,8 @@
 use mathlib.Core.Path.{_≡_}
 use lib.ListN.{take}
 use Rattle.std.specs.Of.Vec.{vec-items}
-use Rattle.protocol.specs.Places.{risingOf}
-use Rattle.protocol.proofs.places.rising.Given as given
+use Rattle.places.specs.Places.{risingOf}
+use Rattle.places.proofs.rising.Given as given
 
 -- the places of those that were named so far
 abbrev pub Inv-loop-place : given.InvT-loop-place

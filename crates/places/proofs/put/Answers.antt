@@ -1,8 +1,8 @@
 use mathlib.Core.Path.{_∙_}
 use Rattle.std.specs.Of.Vec.{vec-items}
 use Rattle.std.specs.shelf.Sorted.{unsigned}
-use Rattle.protocol.proofs.Named.{put-same, put-new}
-use Rattle.protocol.proofs.places.put.Needs as need
+use Rattle.places.proofs.Named.{put-same, put-new}
+use Rattle.places.proofs.put.Needs as need
 
 pub returns-in-Ok : need.returns-in-Ok
 returns-in-Ok c =
