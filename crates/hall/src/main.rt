@@ -1,4 +1,6 @@
 // A whole hall: reads a hall file and a script, carries the script out, and prints.
+#![tactic(auto)]
+
 use libc::isatty;
 use network::commands::Command;
 use network::state::State;

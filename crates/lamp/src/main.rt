@@ -1,4 +1,6 @@
 // A lamp that is talked to over its standard input and output.
+#![tactic(auto)]
+
 use console::answers::{Answer, answer_to, text_of};
 use console::arguments::site_of;
 use console::fault::Fault;

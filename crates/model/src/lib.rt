@@ -1,4 +1,5 @@
 // The hall as a whole: which doings there are. What they do, and what is promised of them, stands in specs/.
+#![tactic(auto)]
 
 // One lamp does one thing.
 #[derive(Clone, Copy)]

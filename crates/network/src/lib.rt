@@ -1,4 +1,6 @@
 // A whole hall: its state in lent words, and what a script does to it.
+#![tactic(auto)]
+
 mod carrying;
 pub mod commands;
 mod doings;

@@ -1,4 +1,6 @@
 // Places that are named in any order, once or more often, as those that a lamp is wired to.
+#![tactic(auto)]
+
 ghost use Rattle.std.specs.Prelude.{◌≡◌, IfOk, OnOk};
 ghost use Rattle.places.specs.Places.{with_place, rising_of, RiseFrom, RisingAndWhole};
 

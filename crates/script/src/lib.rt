@@ -1,4 +1,6 @@
 // What the lines of hall files and scripts say, and the text of what is shown of a hall.
+#![tactic(auto)]
+
 pub mod answers;
 pub mod halls;
 mod lines;

@@ -1,10 +1,10 @@
 -- Storing a telling writes its part of a memory, and no other.
-use Rattle.std.proofs.Common.{◌≡◌, ℕ, ◌+◌, ◌-◌, ◌*◌, ◌<◌, ◌≤◌, List, ◌++◌, length, take, drop, sym, refl, ap, ◌∙◌, ⊎_elim, arith, length-append, length-drop, length-take}
+use Rattle.std.proofs.Common.{◌≡◌, ℕ, ◌+◌, ◌-◌, ◌*◌, ◌<◌, ◌≤◌, List, ◌++◌, length, take, drop, sym, ap, ◌∙◌, ⊎_elim, arith, length-append, length-drop, length-take}
 use Rattle.std.proofs.lemmas.List.{take_at, drop_at, take-append-le, drop-append-le, drop-take, take-take, drop-drop}
 use Rattle.std.proofs.lemmas.Bool.{cases_lt}
 use Rattle.telling.specs.declared.Telling.{Telling}
 use Rattle.telling.specs.Layout.{bytes_of, telling_of, part_of, stored}
-use Rattle.telling.specs.Laws.{Fitting, PartsApart}
+use Rattle.telling.specs.Laws.{PartsApart}
 use Rattle.telling.proofs.Words.{length-bytes_of, telling_back}
 
 module _ (m : List ℕ) (k : ℕ) (t : Telling) (h : 28 * k + 28 ≤ length m) where

@@ -1,4 +1,6 @@
 // What lamps tell each other, and how it stands in bytes.
+#![tactic(auto)]
+
 ghost use Rattle.std.specs.Prelude.{◌≡◌, ◌+◌, ◌<◌, length};
 ghost use Rattle.telling.specs.Layout.{word_at, bytes_of, telling_of};
 

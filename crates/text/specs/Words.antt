@@ -1,5 +1,5 @@
 -- Words of a line: what stands between its spaces, one space between two words.
-use Rattle.std.specs.Prelude.{◌≡◌, ℕ, ◌-◌, cond, List, [], ◌∷◌, length, take, Some, None, Option, ◌==◌, ◌≢◌, slice_index}
+use Rattle.std.specs.Prelude.{ℕ, ◌-◌, cond, List, [], ◌∷◌, length, take, Some, None, Option, ◌==◌, ◌≢◌, slice_index}
 use Rattle.std.specs.List.{AllByRecursion}
 
 -- what was read up to a line's end: a line feed at the end is not of the line

@@ -1,5 +1,7 @@
 // How numbers, bytes in hexadecimal and words stand in the lines that programs read and write.
 // A line may hold any bytes, so all of it is over bytes and not over text.
+#![tactic(auto)]
+
 ghost use Rattle.std.specs.Prelude.{◌≡◌, ◌<◌, ◌∷◌, ◌++◌, IfOk, vec_items, string_bytes};
 ghost use Rattle.std.specs.Option.{option_map};
 ghost use Rattle.text.specs.Decimal.{number_of, with_digit};

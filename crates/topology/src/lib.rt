@@ -1,4 +1,6 @@
 // Which lamps a hall has and how they are wired, from the lines of a hall file.
+#![tactic(auto)]
+
 mod checks;
 pub mod fault;
 pub mod hall;

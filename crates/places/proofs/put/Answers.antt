@@ -5,9 +5,9 @@ use Rattle.places.proofs.put.Goals as goal
 pub returns-in-Ok : goal.returns-in-Ok
 returns-in-Ok c =
     let found = c.in-Ok.ensures in
-    put_same (vec_items c.args.places.now) _ c.args.place c.as-slice.ensures.value c.requires c.in-Ok.field-0 found.bound (found.ok 0)
+    put_same (vec_items c.args.places.now) _ c.args.place c.as_slice.ensures.value c.requires c.in-Ok.field-0 found.bound (found.ok 0)
 
-pub returns-in-ok-insert : goal.returns-in-ok-insert
-returns-in-ok-insert c =
-    c.in-ok-insert.ensures.items
-    ∙ put_new (vec_items c.args.places.now) _ c.args.place c.as-slice.ensures.value c.requires c.in-Err.i c.in-Err.ensures.position
+pub returns-in_ok-insert : goal.returns-in_ok-insert
+returns-in_ok-insert c =
+    c.in_ok-insert.ensures.items
+    ∙ put_new (vec_items c.args.places.now) _ c.args.place c.as_slice.ensures.value c.requires c.in-Err.i c.in-Err.ensures.position

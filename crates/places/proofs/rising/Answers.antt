@@ -11,7 +11,7 @@ put-requires c =
 
 pub loop-place-preserved : goal.loop-place-preserved
 loop-place-preserved c =
-    c.in-ok-put.ensures ∙ ap (λ ps. with_place ps (get_or c.args.named.now c.loop-place.place-index 0)) c.loop-place.invariant
+    c.in_ok-put.ensures ∙ ap (λ ps. with_place ps (get_or c.args.named.now c.loop-place.place-index 0)) c.loop-place.invariant
     ∙ sym (fold_more with_place [] c.args.named.now c.loop-place.place-index 0 c.loop-place-test.true)
 
 pub returns : goal.returns

@@ -5,7 +5,7 @@ use Rattle.console.proofs.arguments.site_from.Goals as goal
 
 pub returns-in-err-new : goal.returns-in-err-new
 returns-in-err-new c =
-    let p = err_from_is_err_and c.from-residual-in-err-new.result c.from-residual-in-err-new.ensures.1 in
+    let p = err_from_is_err_and c.from_residual-in-err-new.result c.from_residual-in-err-new.ensures.1 in
     let refused = c.in-err-new.ensures in
     rw (p.1, p.2) (
       refused.0,

@@ -2,15 +2,15 @@ use Rattle.std.proofs.Common.{sym, ◌∙◌}
 use Rattle.protocol.proofs.Rising.{rises_more, rises_stop, rises_all}
 use Rattle.protocol.proofs.sites.rises.Goals as goal
 
-pub returns-then-not-may-wire : goal.returns-then-not-may-wire
-returns-then-not-may-wire c =
+pub returns-then-not-may_wire : goal.returns-then-not-may_wire
+returns-then-not-may_wire c =
     sym (rises_stop c.args.own c.loop-place.low c.args.places.now c.loop-place.place-index _ c.loop-place-test.true
-    c.loop-place.invariant (sym c.may_wire_apart.ensures ∙ c.if-not-may-wire.true))
+    c.loop-place.invariant (sym c.may_wire_apart.ensures ∙ c.if-not-may_wire.true))
 
 pub loop-place-preserved : goal.loop-place-preserved
 loop-place-preserved c =
     rises_more c.args.own c.loop-place.low c.args.places.now c.loop-place.place-index _ c.loop-place-test.true
-    c.loop-place.invariant (sym c.may_wire_apart.ensures ∙ c.if-not-may-wire.false)
+    c.loop-place.invariant (sym c.may_wire_apart.ensures ∙ c.if-not-may_wire.false)
 
 pub returns : goal.returns
 returns c =

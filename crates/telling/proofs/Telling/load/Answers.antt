@@ -7,4 +7,4 @@ pub returns : goal.returns
 returns c =
     let inside : ltb c.args.k (length c.args.memory.now / 28) ≡ true = lt-ltb _ _ c.if-k-memory.false in
     let long : 28 * c.args.k + 28 - 28 * c.args.k ≡ 28 = omega arith in
-    simp (inside, c.from-part.ensures, long)
+    simp (inside, c.from_part.ensures, long)

@@ -1,5 +1,5 @@
 -- What is written is the k-th part, and the rest is as it was.
-use Rattle.std.proofs.Common.{◌≡◌, ◌+◌, ◌-◌, ◌*◌, ◌/◌, true, ltb, length, sym, arith, rules}
+use Rattle.std.proofs.Common.{sym, rules}
 use Rattle.std.proofs.lemmas.Bool.{lt-ltb}
 use Rattle.std.proofs.lemmas.Slice.{overwrites}
 use Rattle.telling.proofs.Telling.store.Goals as goal

@@ -1,5 +1,5 @@
 -- One more byte is added modulo 256; at the end all of them are.
-use Rattle.std.proofs.Common.{◌≡◌, get_or, sum, arith, rules}
+use Rattle.std.proofs.Common.{arith}
 use Rattle.std.proofs.lemmas.List.Sums.{sum_by_more}
 use Rattle.std.proofs.lemmas.List.{take_all}
 use Rattle.telling.proofs.frame.check_of.Goals as goal

@@ -14,9 +14,9 @@ loop-k-preserved c =
     let inside : k < length c.loop-k.given = omega (arith, lamp.site.few, c.loop-k.invariant.2) in
     let more = sizes_more lamp heard lamp.site.own.place c.args.best k c.loop-k-test.true in
     let here = λ (d : Neighbour).
-    given_kth lamp heard c.args.best c.args.number k c.loop-k.next c.given-to.result d c.loop-k-test.true c.loop-k.invariant.0 c.given-to.ensures in (
-      omega (arith, more, c.loop-k.invariant.0, c.cut-sum-next-in-loop-k.ensures, c.child-size.ensures),
-      written_more c.loop-k.given k c.given-to.result 0
+    given_kth lamp heard c.args.best c.args.number k c.loop-k.next c.given_to.result d c.loop-k-test.true c.loop-k.invariant.0 c.given_to.ensures in (
+      omega (arith, more, c.loop-k.invariant.0, c.cut_sum-next-in-loop-k.ensures, c.child_size.ensures),
+      written_more c.loop-k.given k c.given_to.result 0
           (λ j x. (d : Neighbour) → x ≡ given_to lamp.site.own c.args.best c.args.number (remembered lamp) (get_or (remembered lamp) j d))
           inside c.loop-k.invariant.1 here,
       simp length-set c.loop-k.invariant.2,

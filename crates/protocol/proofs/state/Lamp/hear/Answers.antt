@@ -5,11 +5,11 @@ use Rattle.protocol.specs.Hearing.{after_hearing, hearing_of}
 use Rattle.protocol.proofs.Wires.{wire_there, wire_missing, replaced_there, replaced_missing}
 use Rattle.protocol.proofs.state.Lamp.hear.Goals as goal
 
-pub returns-in-default-wire-to : goal.returns-in-default-wire-to
-returns-in-default-wire-to c =
+pub returns-in_default-wire_to : goal.returns-in_default-wire_to
+returns-in_default-wire_to c =
     let lamp = c.args.self in
     let from = c.args.from in
-    let none = c.in-default-wire-to.ensures in
+    let none = c.in_default-wire_to.ensures in
     record {
       site = refl;
       last = refl;

@@ -10,13 +10,13 @@ pub returns : goal.returns
 returns c =
     let lamp = c.args.self.now in
     let wires = lamp.site.wires in
-    let vec = c.in-ok-memory.memory in
+    let vec = c.in_ok-memory.memory in
     let after = c.store.new.memory in
-    let sized : vec_len vec ≡ 28 * wires = c.in-ok-memory.ensures.len in
-    let lent : length c.as-mut-slice.result.now ≡ 28 * wires = c.as-mut-slice.ensures.len ∙ sized in
+    let sized : vec_len vec ≡ 28 * wires = c.in_ok-memory.ensures.len in
+    let lent : length c.as_mut_slice.result.now ≡ 28 * wires = c.as_mut_slice.ensures.len ∙ sized in
     let long : length after ≡ 28 * wires = omega (arith, c.store.auto.memory) in
     let whole : take vec.len (after ++ drop (length after) vec.items) ≡ after = take_at after _ vec.len (omega arith) in
-    let right : is_memory wires c.as-mut-slice.result.now ≡ true = eq-eqb _ _ lent in
+    let right : is_memory wires c.as_mut_slice.result.now ≡ true = eq-eqb _ _ lent in
     let done : c.store.result ≡ Ok tt = c.store.ensures.refusal ∙ cond-true _ _ _ right in
-    let holds : Holds after lamp.heard wires = subst (λ o. MatchResult o (λ _. Holds after lamp.heard wires) (λ _. after ≡ c.as-mut-slice.result.now)) done c.store.ensures.after in
+    let holds : Holds after lamp.heard wires = subst (λ o. MatchResult o (λ _. Holds after lamp.heard wires) (λ _. after ≡ c.as_mut_slice.result.now)) done c.store.ensures.after in
     (ap length whole ∙ long, λ k h. ap (λ m. part_of m k) whole ∙ holds k h)

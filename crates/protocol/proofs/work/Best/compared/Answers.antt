@@ -2,9 +2,9 @@ use Rattle.std.proofs.Common.{rules}
 use Rattle.protocol.specs.Rules.{compared}
 use Rattle.protocol.proofs.work.Best.compared.Goals as goal
 
-pub returns-in-default : goal.returns-in-default
+pub returns-in_default : goal.returns-in_default
 unfolding compared
-returns-in-default c = search rules
+returns-in_default c = search rules
 
 pub returns-then-nearer : goal.returns-then-nearer
 unfolding compared

@@ -5,19 +5,19 @@ use Rattle.topology.proofs.hall.Topology.of.Goals as goal
 
 pub returns-in-err-most : goal.returns-in-err-most
 returns-in-err-most c =
-    let p = err_from_is_err_and c.from-residual.result c.from-residual.ensures.1 in
+    let p = err_from_is_err_and c.from_residual.result c.from_residual.ensures.1 in
     rw (p.1, p.2) (λ h d s. c.in-err-most.ensures h.most (sound_headed d s))
 
 pub returns-in-err-check-names : goal.returns-in-err-check-names
 returns-in-err-check-names c =
-    let p = err_from_is_err_and c.from-residual-in-err-check-names.result c.from-residual-in-err-check-names.ensures.1 in
+    let p = err_from_is_err_and c.from_residual-in-err-check-names.result c.from_residual-in-err-check-names.ensures.1 in
     rw (p.1, p.2) (
     breaks_named c.in-ok-most.ensures (c.as-slice-names.ensures.value ∙ c.in-ok-all.ensures) c.in-err-check-names.ensures
     )
 
 pub returns-in-err-check-wires : goal.returns-in-err-check-wires
 returns-in-err-check-wires c =
-    let p = err_from_is_err_and c.from-residual-in-err-check-wires.result c.from-residual-in-err-check-wires.ensures.1 in
+    let p = err_from_is_err_and c.from_residual-in-err-check-wires.result c.from_residual-in-err-check-wires.ensures.1 in
     rw (p.1, p.2) (
     breaks_right c.in-ok-most.ensures (c.as-slice-names.ensures.value ∙ c.in-ok-all.ensures) c.in-err-check-wires.ensures
     )
