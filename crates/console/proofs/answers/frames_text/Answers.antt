@@ -14,8 +14,8 @@ loop-place-preserved c =
     let line : ℕ → List ℕ = λ place. lineText (toldAs place (tell_of lamp place)) in
     let inside : k < length (places_of lamp.site) = omega (arith, c.loop-place-test.true, ap length c.places-place-items.ensures) in
     let told = c.told.ensures ∙ ap (toldAs _) c.tell.ensures in
-    let piece = c.as-str.ensures.value ∙ c.in-ok-line.ensures ∙ ap lineText told ∙ ap (λ ps. line (get_or ps k 0)) c.places-place-items.ensures in
-    pieces_more line (places_of lamp.site) k _ _ _ inside c.loop-place.invariant piece c.in-ok-push-str.ensures.bytes
+    let piece = c.as_str.ensures.value ∙ c.in_ok-line.ensures ∙ ap lineText told ∙ ap (λ ps. line (get_or ps k 0)) c.places-place-items.ensures in
+    pieces_more line (places_of lamp.site) k _ _ _ inside c.loop-place.invariant piece c.in_ok-push_str.ensures.bytes
 
 pub returns : goal.returns
 returns c =

@@ -7,7 +7,7 @@ use Rattle.network.proofs.doings.row.Goals as goal
 pub loop-k-preserved : goal.loop-k-preserved
 loop-k-preserved c =
     let inside : c.loop-k.k < length c.loop-k.heard = omega (arith, c.loop-k.invariant.1, c.requires) in (
-      written_more c.loop-k.heard c.loop-k.k c.telling-in.result nothing (λ k t. t ≡ telling_in c.args.memories.now (16 * c.args.place + k)) inside
-          c.loop-k.invariant.0 c.telling-in.ensures,
+      written_more c.loop-k.heard c.loop-k.k c.telling_in.result nothing (λ k t. t ≡ telling_in c.args.memories.now (16 * c.args.place + k)) inside
+          c.loop-k.invariant.0 c.telling_in.ensures,
       simp length-set c.loop-k.invariant.1,
     )

@@ -10,7 +10,7 @@ use Rattle.network.proofs.order.all_doings.Goals as goal
 pub loop-site-preserved : goal.loop-site-preserved
 loop-site-preserved c =
     pieces_more hearings_of (map (λ (s : Site). Work s.own.place) c.args.sites.now) c.args.sites.now c.loop-site.site-index c.site-item.result c.loop-site-test.true
-    c.loop-site.invariant (c.in-ok-push-hearings.ensures ∙ ap (λ s. vec_items c.loop-site.doings ++ hearings_of s) c.site-item.is)
+    c.loop-site.invariant (c.in_ok-push_hearings.ensures ∙ ap (λ s. vec_items c.loop-site.doings ++ hearings_of s) c.site-item.is)
 
 pub returns : goal.returns
 returns c =

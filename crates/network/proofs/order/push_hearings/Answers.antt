@@ -11,7 +11,7 @@ loop-of-preserved c =
     let lent = c.places-of-items.ensures in
     let inside : c.loop-of.of-index < length (places_of site) = omega (arith, ap length lent) in
     mapped_more (Hear c.own-by.result.place) (vec_items c.args.doings.now) (places_of site) c.loop-of.of-index 0 inside c.loop-of.invariant
-    (c.in-ok-push.ensures.items ∙ ap (λ ps. vec_items c.loop-of.doings ++ Hear c.own-by.result.place (get_or ps c.loop-of.of-index 0) ∷ []) lent)
+    (c.in_ok-push.ensures.items ∙ ap (λ ps. vec_items c.loop-of.doings ++ Hear c.own-by.result.place (get_or ps c.loop-of.of-index 0) ∷ []) lent)
 
 pub returns : goal.returns
 returns c =

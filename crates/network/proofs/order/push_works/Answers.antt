@@ -11,7 +11,7 @@ loop-site-preserved c =
     let items = vec_items c.loop-site.doings in
     let s = c.site-item.result in
     mapped_more (λ (s : Site). Work s.own.place) (vec_items c.args.doings.now) c.args.sites.now c.loop-site.site-index s c.loop-site-test.true c.loop-site.invariant
-    (c.in-ok-push.ensures.items ∙ ap (λ (own : Own). items ++ Work own.place ∷ []) c.own.ensures
+    (c.in_ok-push.ensures.items ∙ ap (λ (own : Own). items ++ Work own.place ∷ []) c.own.ensures
     ∙ ap (λ (s : Site). items ++ Work s.own.place ∷ []) c.site-item.is)
 
 pub returns : goal.returns

@@ -6,7 +6,7 @@ use Rattle.script.proofs.lines.each_line.Goals as goal
 pub loop-rest-preserved : goal.loop-rest-preserved
 loop-rest-preserved g c =
     read_more (λ line. g.T.Said.by (words_of line)) (vec_items c.loop-rest.all) c.loop-rest.rest.now c.loop-rest.invariant _
-    c.next-line.ensures.lines c.said.ensures c.in-ok-push.ensures.items
+    c.next_line.ensures.lines c.said.ensures c.in_ok-push.ensures.items
 
 pub returns : goal.returns
 returns g c =

@@ -13,8 +13,8 @@ pub loop-k-preserved : goal.loop-k-preserved
 loop-k-preserved c = λ roomy.
     let t = c.args.hall.now in
     let before = c.loop-k.invariant roomy in
-    performed_more t c.args.state.now c.loop-k.state c.carry-out.new.self c.args.script.now c.loop-k.k _ c.loop-k-test.true before
-    (c.in-ok-refusal.ensures.becomes (roomy_so (hall_of t) c.loop-k.state before.room))
+    performed_more t c.args.state.now c.loop-k.state c.carry_out.new.self c.args.script.now c.loop-k.k _ c.loop-k-test.true before
+    (c.in_ok-refusal.ensures.becomes (roomy_so (hall_of t) c.loop-k.state before.room))
 
 pub returns : goal.returns
 returns c = λ roomy.

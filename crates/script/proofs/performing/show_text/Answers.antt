@@ -16,10 +16,10 @@ loop-site-preserved c =
     let lent = c.sites-site-items.ensures in
     let inside : k < length (vec_items t.sites) = omega (arith, c.loop-site-test.true, ap length lent) in
     let here = c.site-item.is ∙ ap (λ xs. get_or xs k s) lent in
-    let line = c.as-str.ensures.value ∙ c.in-ok-line.ensures ∙ ap (λ (own : Own). lamp_line t state own.place) c.own.ensures
+    let line = c.as_str.ensures.value ∙ c.in_ok-line.ensures ∙ ap (λ (own : Own). lamp_line t state own.place) c.own.ensures
     ∙ ap (λ (s : Site). lamp_line t state s.own.place) here in
     joined_one (λ (s : Site). lamp_line t state s.own.place) (vec_items t.sites) k s inside c.loop-site.invariant
-    (c.in-ok-push-str.ensures.bytes ∙ ap (λ bytes. string_bytes c.loop-site.text ++ bytes) line)
+    (c.in_ok-push_str.ensures.bytes ∙ ap (λ bytes. string_bytes c.loop-site.text ++ bytes) line)
 
 pub returns : goal.returns
 returns c =

@@ -7,4 +7,4 @@ use Rattle.std.proofs.lemmas.Bool.Decides.{Decides-eqb}
 
 pub returns : goal.returns
 returns c =
-    same_decided _ _ _ (slice_eq-Decides Decides-eqb _ _ _ c.eq.ensures) ∙ ap (bytes_eq c.args.word.now) c.as-bytes.ensures.value
+    same_decided _ _ _ (slice_eq-Decides Decides-eqb _ _ _ c.eq.ensures) ∙ ap (bytes_eq c.args.word.now) c.as_bytes.ensures.value

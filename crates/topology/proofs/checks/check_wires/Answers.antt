@@ -10,7 +10,7 @@ returns-in-Some c all = c.in-Some.ensures (All-get_or (RightEnds c.args.count) c
 
 pub loop-i-preserved : goal.loop-i-preserved
 loop-i-preserved c =
-    All-more (RightEnds c.args.count) c.args.lines.now c.loop-i.i _ c.loop-i-test.true c.loop-i.invariant c.in-default.ensures
+    All-more (RightEnds c.args.count) c.args.lines.now c.loop-i.i _ c.loop-i-test.true c.loop-i.invariant c.in_default.ensures
 
 pub returns : goal.returns
 returns c = subst (All (RightEnds c.args.count)) (take_all c.loop-i.i c.args.lines.now c.loop-i-test.false) c.loop-i.invariant

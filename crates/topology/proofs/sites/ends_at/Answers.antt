@@ -6,7 +6,7 @@ use Rattle.topology.proofs.sites.ends_at.Goals as goal
 pub loop-line-preserved : goal.loop-line-preserved
 loop-line-preserved c =
     joined_one (ends_of c.args.place) c.args.lines.now c.loop-line.line-index (vec_items c.loop-line.ends) c.loop-line.invariant _ _
-    c.loop-line-test.true c.in-ok-put-ends.ensures
+    c.loop-line-test.true c.in_ok-put_ends.ensures
 
 pub returns : goal.returns
 returns c =

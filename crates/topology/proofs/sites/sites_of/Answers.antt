@@ -6,4 +6,4 @@ use Rattle.topology.proofs.sites.sites_of.Goals as goal
 pub loop-i-preserved : goal.loop-i-preserved
 loop-i-preserved c =
     stand_more c.args.most c.args.names.now c.args.lines.now (vec_items c.loop-i.sites) c.loop-i.i c.loop-i.invariant.0 c.loop-i.invariant.1
-    c.in-Some.site _ (MatchOption-at_some _ _ c.in-Some.site c.in-Some.is c.in-ok-site.ensures) c.in-ok-push.ensures.items
+    c.in-Some.site _ (MatchOption-at_some _ _ c.in-Some.site c.in-Some.is c.in_ok-site.ensures) c.in_ok-push.ensures.items

@@ -9,13 +9,13 @@ pub returns-in-SetMemory : goal.returns-in-SetMemory
 unfolding effect_of
 returns-in-SetMemory c =
     let h = hall_of c.args.hall.now in
-    subst (λ x. Becomes h c.args.self.now c.set-memory.new.self (effect_of h (vec_items c.args.hall.now.sites) x)) (sym c.in-SetMemory.is) c.set-memory.ensures
+    subst (λ x. Becomes h c.args.self.now c.set_memory.new.self (effect_of h (vec_items c.args.hall.now.sites) x)) (sym c.in-SetMemory.is) c.set_memory.ensures
 
 pub returns-in-SetWire : goal.returns-in-SetWire
 unfolding effect_of
 returns-in-SetWire c =
     let h = hall_of c.args.hall.now in
-    subst (λ x. Becomes h c.args.self.now c.set-wire.new.self (effect_of h (vec_items c.args.hall.now.sites) x)) (sym c.in-SetWire.is) c.set-wire.ensures
+    subst (λ x. Becomes h c.args.self.now c.set_wire.new.self (effect_of h (vec_items c.args.hall.now.sites) x)) (sym c.in-SetWire.is) c.set_wire.ensures
 
 pub returns-in-SetNoise : goal.returns-in-SetNoise
 unfolding effect_of
@@ -27,7 +27,7 @@ pub returns-in-SetLamp : goal.returns-in-SetLamp
 unfolding effect_of
 returns-in-SetLamp c =
     let h = hall_of c.args.hall.now in
-    subst (λ x. Becomes h c.args.self.now c.set-lamp.new.self (effect_of h (vec_items c.args.hall.now.sites) x)) (sym c.in-SetLamp.is) c.set-lamp.ensures
+    subst (λ x. Becomes h c.args.self.now c.set_lamp.new.self (effect_of h (vec_items c.args.hall.now.sites) x)) (sym c.in-SetLamp.is) c.set_lamp.ensures
 
 pub returns-in-Do : goal.returns-in-Do
 unfolding effect_of
@@ -51,8 +51,8 @@ pub returns-in-Fill : goal.returns-in-Fill
 unfolding effect_of
 returns-in-Fill c =
     let h = hall_of c.args.hall.now in
-    subst (λ x. MatchResult c.fill-all.result (λ _. Becomes h c.args.self.now c.fill-all.new.self (effect_of h (vec_items c.args.hall.now.sites) x)) (λ _. c.fill-all.new.self ≡ c.args.self.now))
-    (sym c.in-Fill.is) c.fill-all.ensures
+    subst (λ x. MatchResult c.fill_all.result (λ _. Becomes h c.args.self.now c.fill_all.new.self (effect_of h (vec_items c.args.hall.now.sites) x)) (λ _. c.fill_all.new.self ≡ c.args.self.now))
+    (sym c.in-Fill.is) c.fill_all.ensures
 
 pub returns-in-Round : goal.returns-in-Round
 unfolding effect_of

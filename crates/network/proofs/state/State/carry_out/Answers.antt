@@ -10,9 +10,9 @@ pub returns : goal.returns
 returns c =
     let t = c.args.hall.now in
     let h = hall_of t in
-    let roomy : is_roomy h c.args.self.now ≡ true = sym c.is-roomy.ensures ∙ c.if-not-is-roomy.false in
-    let fine : None ≡ refusal_of h c.args.command = c.in-default.ensures in
-    let done = c.in-ok-apply.ensures in
+    let roomy : is_roomy h c.args.self.now ≡ true = sym c.is_roomy.ensures ∙ c.if-not-is_roomy.false in
+    let fine : None ≡ refusal_of h c.args.command = c.in_default.ensures in
+    let done = c.in_ok-apply.ensures in
     record {
       refused = fine ∙ sym (cond-true _ _ _ roomy);
       same = tt;

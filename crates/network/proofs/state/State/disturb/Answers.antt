@@ -21,7 +21,7 @@ returns c =
     (reading_noise c.args.self.now.wires.now c.args.self.now.wires.now noise c.in-Some.slot inside)
     (reading_else c.args.self.now.wires.now c.args.self.now.wires.now noise c.in-Some.slot inside)
 
-pub returns-in-default : goal.returns-in-default
-returns-in-default c =
-    let none = c.in-default.ensures in
+pub returns-in_default : goal.returns-in_default
+returns-in_default c =
+    let none = c.in_default.ensures in
     same_wires c.args.hall.now c.args.self.now c.requires c.args.from c.args.to Noise none

@@ -8,8 +8,8 @@ use Rattle.network.proofs.state.State.fill_part.Goals as goal
 
 pub loop-doing-preserved : goal.loop-doing-preserved
 loop-doing-preserved c =
-    drawn_more (hall_of c.args.hall.now) c.args.self.now c.loop-doing.self c.fill-one.new.self c.args.draws.now.state c.loop-doing.draws.state c.fill-one.new.draws.state
-    c.args.part c.args.doings.now c.loop-doing.doing-index _ c.loop-doing-test.true c.loop-doing.invariant c.fill-one.ensures
+    drawn_more (hall_of c.args.hall.now) c.args.self.now c.loop-doing.self c.fill_one.new.self c.args.draws.now.state c.loop-doing.draws.state c.fill_one.new.draws.state
+    c.args.part c.args.doings.now c.loop-doing.doing-index _ c.loop-doing-test.true c.loop-doing.invariant c.fill_one.ensures
 
 pub returns : goal.returns
 returns c =

@@ -4,8 +4,8 @@ use Rattle.network.proofs.Tables.{slot_wired, slot_below, reading_told, reading_
 use Rattle.network.proofs.Changes.{same_wires, other_wires}
 use Rattle.network.proofs.state.State.lay.Goals as goal
 
-pub put-telling-requires : goal.put-telling-requires
-put-telling-requires c = omega (arith, slot_below c.args.hall.now c.in-Some.ensures, c.requires.wires)
+pub put_telling-requires : goal.put_telling-requires
+put_telling-requires c = omega (arith, slot_below c.args.hall.now c.in-Some.ensures, c.requires.wires)
 
 pub offset-bounds-self-slot : goal.offset-bounds-self-slot
 offset-bounds-self-slot c =
@@ -20,11 +20,11 @@ returns c =
     let slot = c.in-Some.ensures in
     let noise = c.args.self.now.noise.now in
     let inside : c.in-Some.slot < length noise = omega (arith, slot_below c.args.hall.now slot, c.requires.noise) in
-    other_wires c.args.hall.now c.args.self.now c.requires _ refl refl c.put-telling.ensures.long (length-set noise _ _) c.args.from c.args.to c.in-Some.slot (Told c.args.said) slot
-    (reading_told c.args.self.now.wires.now c.put-telling.new.words noise c.in-Some.slot inside c.args.said c.put-telling.ensures)
-    (λ r ne. reading_others c.args.self.now.wires.now c.put-telling.new.words noise c.in-Some.slot inside c.args.said r ne c.put-telling.ensures)
+    other_wires c.args.hall.now c.args.self.now c.requires _ refl refl c.put_telling.ensures.long (length-set noise _ _) c.args.from c.args.to c.in-Some.slot (Told c.args.said) slot
+    (reading_told c.args.self.now.wires.now c.put_telling.new.words noise c.in-Some.slot inside c.args.said c.put_telling.ensures)
+    (λ r ne. reading_others c.args.self.now.wires.now c.put_telling.new.words noise c.in-Some.slot inside c.args.said r ne c.put_telling.ensures)
 
-pub returns-in-default : goal.returns-in-default
-returns-in-default c =
-    let none = c.in-default.ensures in
+pub returns-in_default : goal.returns-in_default
+returns-in_default c =
+    let none = c.in_default.ensures in
     same_wires c.args.hall.now c.args.self.now c.requires c.args.from c.args.to (Told c.args.said) none

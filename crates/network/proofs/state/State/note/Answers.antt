@@ -3,12 +3,12 @@ use Rattle.std.proofs.lemmas.Bool.{lt-ltb, le-ltb}
 use Rattle.network.proofs.Changes.{same_lamps, other_lamps}
 use Rattle.network.proofs.state.State.note.Goals as goal
 
-pub put-numbers-requires : goal.put-numbers-requires
-put-numbers-requires c = omega (arith, ap length c.sites.ensures, c.requires.lamps)
+pub put_numbers-requires : goal.put_numbers-requires
+put_numbers-requires c = omega (arith, ap length c.sites.ensures, c.requires.lamps)
 
 pub returns : goal.returns
 returns c =
-    other_lamps c.args.hall.now c.args.self.now c.requires _ refl refl refl c.args.place c.args.numbers c.put-numbers.ensures
+    other_lamps c.args.hall.now c.args.self.now c.requires _ refl refl refl c.args.place c.args.numbers c.put_numbers.ensures
 
 pub returns-then-place-sites : goal.returns-then-place-sites
 returns-then-place-sites c =

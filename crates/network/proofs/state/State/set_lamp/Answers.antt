@@ -12,5 +12,5 @@ pub returns : goal.returns
 returns c =
     let t = c.args.hall.now in
     become_as (hall_of t) c.args.self.now (noted c.args.place) (λ n. with_number c.args.field c.args.n (n.lamp c.args.place)) c.note.new.self _
-    (λ n stands. c.set-of.ensures ∙ ap (with_number c.args.field c.args.n) (c.numbers-numbers.ensures ∙ stands.lamps c.args.place (omega (arith, ap length c.sites.ensures))))
+    (λ n stands. c.set_of.ensures ∙ ap (with_number c.args.field c.args.n) (c.numbers-numbers.ensures ∙ stands.lamps c.args.place (omega (arith, ap length c.sites.ensures))))
     c.note.ensures

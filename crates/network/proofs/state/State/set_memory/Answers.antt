@@ -14,11 +14,11 @@ returns c =
     let t = c.args.hall.now in
     become_as (hall_of t) c.args.self.now (remembering c.args.by c.args.of) (λ n. with_field c.args.field c.args.n (n.heard c.args.by c.args.of)) c.remember.new.self _
     (λ n stands.
-    c.set-in.ensures ∙ ap (with_field c.args.field c.args.n) (c.memory-said.ensures ∙ heard_at t c.args.self.now c.requires n stands c.args.by c.args.of c.in-Some.slot c.in-Some.ensures))
+    c.set_in.ensures ∙ ap (with_field c.args.field c.args.n) (c.memory-said.ensures ∙ heard_at t c.args.self.now c.requires n stands c.args.by c.args.of c.in-Some.slot c.in-Some.ensures))
     c.remember.ensures
 
-pub returns-in-default : goal.returns-in-default
-returns-in-default c =
+pub returns-in_default : goal.returns-in_default
+returns-in_default c =
     let t = c.args.hall.now in
     same_as (hall_of t) c.args.self.now (remembering c.args.by c.args.of) (λ n. with_field c.args.field c.args.n (n.heard c.args.by c.args.of)) c.requires
-    (λ said. same_memories t c.args.self.now c.requires c.args.by c.args.of said c.in-default.ensures)
+    (λ said. same_memories t c.args.self.now c.requires c.args.by c.args.of said c.in_default.ensures)

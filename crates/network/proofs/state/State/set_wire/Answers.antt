@@ -18,12 +18,12 @@ returns c =
     let t = c.args.hall.now in
     become_as (hall_of t) c.args.self.now (λ (said : Telling). laid c.args.from c.args.to (Told said)) (λ n. with_field c.args.field c.args.n (or_zeros (n.line c.args.from c.args.to))) c.lay.new.self _
     (λ n stands.
-    c.set-in.ensures ∙ ap (with_field c.args.field c.args.n)
-    (c.or-zeros-said.ensures ∙ ap or_zeros (c.reading.ensures ∙ line_at t c.args.self.now c.requires n stands c.args.to c.args.from c.in-Some.slot c.in-Some.ensures)))
+    c.set_in.ensures ∙ ap (with_field c.args.field c.args.n)
+    (c.or_zeros-said.ensures ∙ ap or_zeros (c.reading.ensures ∙ line_at t c.args.self.now c.requires n stands c.args.to c.args.from c.in-Some.slot c.in-Some.ensures)))
     c.lay.ensures
 
-pub returns-in-default : goal.returns-in-default
-returns-in-default c =
+pub returns-in_default : goal.returns-in_default
+returns-in_default c =
     let t = c.args.hall.now in
     same_as (hall_of t) c.args.self.now (λ (said : Telling). laid c.args.from c.args.to (Told said)) (λ n. with_field c.args.field c.args.n (or_zeros (n.line c.args.from c.args.to))) c.requires
-    (λ said. same_wires t c.args.self.now c.requires c.args.from c.args.to (Told said) c.in-default.ensures)
+    (λ said. same_wires t c.args.self.now c.requires c.args.from c.args.to (Told said) c.in_default.ensures)

@@ -4,24 +4,24 @@ use Rattle.topology.specs.Checks.{Stands}
 use Rattle.topology.proofs.Described.{breaks_sites, breaks_joined, when_joined, described_within, described_both, stands_some, stands_few, stands_placed, stands_of_most, stands_described, stands_differ}
 use Rattle.topology.proofs.hall.Topology.build.Goals as goal
 
-pub returns-in-default : goal.returns-in-default
-returns-in-default c = breaks_sites c.requires.headed c.requires.all (MatchOption-at_none _ _ c.in-default.is c.in-ok-sites.ensures)
+pub returns-in_default : goal.returns-in_default
+returns-in_default c = breaks_sites c.requires.headed c.requires.all (MatchOption-at_none _ _ c.in_default.is c.in_ok-sites.ensures)
 
-pub hang-together-requires : goal.hang-together-requires
-hang-together-requires c =
-    let made = MatchOption-at_some _ _ c.in-Some.sites c.in-Some.is c.in-ok-sites.ensures in
-    let lent = subst (Stands c.args.most c.args.names.now c.args.lines.now) (sym c.as-slice.ensures.value) made in
+pub hang_together-requires : goal.hang_together-requires
+hang_together-requires c =
+    let made = MatchOption-at_some _ _ c.in-Some.sites c.in-Some.is c.in_ok-sites.ensures in
+    let lent = subst (Stands c.args.most c.args.names.now c.args.lines.now) (sym c.as_slice.ensures.value) made in
     let described = stands_described c.requires lent in
     record { some = stands_some c.requires lent; within = described_within described; both = described_both described }
 
 pub returns-then-not-branch : goal.returns-then-not-branch
 returns-then-not-branch c =
-    let made = MatchOption-at_some _ _ c.in-Some.sites c.in-Some.is c.in-ok-sites.ensures in
-    breaks_joined c.as-slice.ensures.value c.in-ok-hang-together.ensures c.args.most (stands_described c.requires made) c.if-not-branch.true
+    let made = MatchOption-at_some _ _ c.in-Some.sites c.in-Some.is c.in_ok-sites.ensures in
+    breaks_joined c.as_slice.ensures.value c.in_ok-hang_together.ensures c.args.most (stands_described c.requires made) c.if-not-branch.true
 
 pub invariant-of-result : goal.invariant-of-result
 invariant-of-result c =
-    let made = MatchOption-at_some _ _ c.in-Some.sites c.in-Some.is c.in-ok-sites.ensures in
+    let made = MatchOption-at_some _ _ c.in-Some.sites c.in-Some.is c.in_ok-sites.ensures in
     let described = stands_described c.requires made in
     let long = c.in-Some.sites.ok.0 in (
       stands_placed c.requires made,
@@ -35,7 +35,7 @@ invariant-of-result c =
               stands_differ c.requires made,
               (
                 described_within described,
-                (described_both described, (when_joined c.as-slice.ensures.value c.in-ok-hang-together.ensures c.args.most c.if-not-branch.false, tt)),
+                (described_both described, (when_joined c.as_slice.ensures.value c.in_ok-hang_together.ensures c.args.most c.if-not-branch.false, tt)),
               ),
             ),
           ),
@@ -44,4 +44,4 @@ invariant-of-result c =
     )
 
 pub returns : goal.returns
-returns c = stands_described c.requires (MatchOption-at_some _ _ c.in-Some.sites c.in-Some.is c.in-ok-sites.ensures)
+returns c = stands_described c.requires (MatchOption-at_some _ _ c.in-Some.sites c.in-Some.is c.in_ok-sites.ensures)

@@ -3,30 +3,30 @@ use Rattle.std.proofs.lemmas.Result.{err_from_is_err_and}
 use Rattle.topology.proofs.Described.{sound_headed, breaks_named, breaks_right}
 use Rattle.topology.proofs.hall.Topology.of.Goals as goal
 
-pub returns-in-err-most : goal.returns-in-err-most
-returns-in-err-most c =
+pub returns-in_err-most : goal.returns-in_err-most
+returns-in_err-most c =
     let p = err_from_is_err_and c.from_residual.result c.from_residual.ensures.1 in
-    rw (p.1, p.2) (λ h d s. c.in-err-most.ensures h.most (sound_headed d s))
+    rw (p.1, p.2) (λ h d s. c.in_err-most.ensures h.most (sound_headed d s))
 
-pub returns-in-err-check-names : goal.returns-in-err-check-names
-returns-in-err-check-names c =
-    let p = err_from_is_err_and c.from_residual-in-err-check-names.result c.from_residual-in-err-check-names.ensures.1 in
+pub returns-in_err-check_names : goal.returns-in_err-check_names
+returns-in_err-check_names c =
+    let p = err_from_is_err_and c.from_residual-in_err-check_names.result c.from_residual-in_err-check_names.ensures.1 in
     rw (p.1, p.2) (
-    breaks_named c.in-ok-most.ensures (c.as-slice-names.ensures.value ∙ c.in-ok-all.ensures) c.in-err-check-names.ensures
+    breaks_named c.in_ok-most.ensures (c.as_slice-names.ensures.value ∙ c.in_ok-all.ensures) c.in_err-check_names.ensures
     )
 
-pub returns-in-err-check-wires : goal.returns-in-err-check-wires
-returns-in-err-check-wires c =
-    let p = err_from_is_err_and c.from_residual-in-err-check-wires.result c.from_residual-in-err-check-wires.ensures.1 in
+pub returns-in_err-check_wires : goal.returns-in_err-check_wires
+returns-in_err-check_wires c =
+    let p = err_from_is_err_and c.from_residual-in_err-check_wires.result c.from_residual-in_err-check_wires.ensures.1 in
     rw (p.1, p.2) (
-    breaks_right c.in-ok-most.ensures (c.as-slice-names.ensures.value ∙ c.in-ok-all.ensures) c.in-err-check-wires.ensures
+    breaks_right c.in_ok-most.ensures (c.as_slice-names.ensures.value ∙ c.in_ok-all.ensures) c.in_err-check_wires.ensures
     )
 
 pub build-requires : goal.build-requires
 build-requires c =
     record {
-      headed = c.in-ok-most.ensures;
-      all = c.as-slice-names.ensures.value ∙ c.in-ok-all.ensures;
-      named = c.in-ok-check-names.ensures;
-      right = c.in-ok-check-wires.ensures;
+      headed = c.in_ok-most.ensures;
+      all = c.as_slice-names.ensures.value ∙ c.in_ok-all.ensures;
+      named = c.in_ok-check_names.ensures;
+      right = c.in_ok-check_wires.ensures;
     }
