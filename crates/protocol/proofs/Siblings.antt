@@ -1,12 +1,12 @@
 -- In a row the neighbours before the k-th are the first k.
-use Rattle.std.proofs.Common.{◌≡◌, ℕ, zero, suc, ◌+◌, ◌<◌, ◌≤◌, min, Bool, true, false, cond, ◌&&◌, ltb, leb, List, [], ◌∷◌, length, get_or, take, filter, sym, refl, ap, ◌∙◌, arith}
+use Rattle.std.proofs.Common.{◌≡◌, ℕ, zero, suc, ◌+◌, ◌<◌, ◌≤◌, min, true, cond, ltb, List, [], ◌∷◌, length, get_or, take, filter, refl, ap, ◌∙◌, arith}
 use Rattle.std.proofs.lemmas.Bool.{and_parts, leb-true, lt-ltb, le-ltb, cond-true, cond-false}
 use Rattle.telling.specs.declared.Telling.{Telling}
 use Rattle.protocol.specs.declared.facts.Own.{Own}
 use Rattle.protocol.specs.declared.facts.Site.{Site}
 use Rattle.protocol.specs.declared.state.Lamp.{Lamp}
 use Rattle.protocol.specs.declared.work.Best.{Best}
-use Rattle.protocol.specs.Wiring.{may_wire, rises_from, is_sound}
+use Rattle.protocol.specs.Wiring.{rises_from}
 use Rattle.protocol.specs.Rows.{Neighbour, row_of, places_of, remembered}
 use Rattle.protocol.specs.Rules.{nothing, is_before, is_child, sizes, given_to}
 use Rattle.protocol.proofs.Rows.{get_or-row, length-places_of, remembered_at}

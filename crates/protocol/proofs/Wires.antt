@@ -1,10 +1,10 @@
 -- What a row holds at the place that a wire leads to.
-use Rattle.std.proofs.Common.{◌≡◌, ℕ, zero, suc, ◌+◌, ◌<◌, ◌≤◌, Bool, true, false, cond, ◌||◌, eqb, List, [], ◌∷◌, length, get_or, set, sym, refl, ap, ◌∙◌, arith, length-take}
+use Rattle.std.proofs.Common.{◌≡◌, ℕ, zero, suc, ◌<◌, ◌≤◌, true, false, List, [], ◌∷◌, length, get_or, set, sym, refl, ap, ◌∙◌, arith, length-take}
 use Rattle.std.proofs.lemmas.List.{get_or-take}
 use Rattle.std.proofs.lemmas.Bool.{eq-eqb, ne_eqb, cond-true, cond-false, or_left, or_right, or_from}
 use Rattle.telling.specs.declared.Telling.{Telling}
 use Rattle.protocol.specs.declared.facts.Site.{Site}
-use Rattle.protocol.specs.Rows.{Neighbour, row_of, places_of, has_wire, Wire, NoWire}
+use Rattle.protocol.specs.Rows.{row_of, places_of, has_wire, Wire, NoWire}
 use Rattle.protocol.specs.Rules.{nothing, telling_at}
 use Rattle.protocol.specs.Hearing.{replaced}
 use Rattle.protocol.proofs.Rows.{length-places_of}

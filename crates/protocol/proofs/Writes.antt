@@ -1,5 +1,5 @@
 -- A loop that writes an array from the front.
-use Rattle.std.proofs.Common.{◌≡◌, ℕ, ◌+◌, ◌<◌, ◌≢◌, List, length, get_or, set, sym, subst, arith, get_or-set_other, get_or-set_same, below_more}
+use Rattle.std.proofs.Common.{ℕ, ◌+◌, ◌<◌, ◌≢◌, List, length, get_or, set, sym, subst, arith, get_or-set_other, get_or-set_same, below_more}
 
 module _ {X : Type 0} (xs : List X) (k : ℕ) (x d : X) (P : ℕ → X → Type 0) where
   earlier : (j : ℕ) → j < k → P j (get_or xs j d) → P j (get_or (set xs k x) j d)

@@ -6,7 +6,6 @@ use Rattle.telling.specs.declared.refusal.Refusal.TheVariants.{NoWire}
 use Rattle.telling.specs.Layout.{frame_of}
 use Rattle.protocol.specs.declared.state.Lamp.{Lamp}
 use Rattle.protocol.specs.declared.state.Numbers.{Numbers}
-use Rattle.protocol.specs.declared.state.Work.{Work}
 use Rattle.protocol.specs.declared.work.Best.{Best}
 use Rattle.protocol.specs.Rows.{Neighbour, row_of, places_of, has_wire, remembered}
 use Rattle.protocol.specs.Rules.{telling_at, worked, given_to, telling_with, tells}

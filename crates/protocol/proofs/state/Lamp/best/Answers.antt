@@ -1,4 +1,4 @@
-use Rattle.std.proofs.Common.{◌≡◌, length, sym, ap, ◌∙◌, rules}
+use Rattle.std.proofs.Common.{◌≡◌, length, ap, ◌∙◌, rules}
 use Rattle.protocol.specs.Rules.{best_of, compared}
 use Rattle.protocol.proofs.Rows.{whole_row, fold_more}
 use Rattle.protocol.proofs.state.Lamp.best.Goals as goal

@@ -1,5 +1,5 @@
 -- A memory made of the right size is not refused, and what was lent comes back whole.
-use Rattle.std.proofs.Common.{◌≡◌, ◌*◌, true, ◌++◌, length, take, drop, Ok, vec_len, sym, ap, ◌∙◌, subst, arith, MatchResult}
+use Rattle.std.proofs.Common.{◌≡◌, ◌*◌, true, ◌++◌, length, take, drop, Ok, vec_len, ap, ◌∙◌, subst, arith, MatchResult}
 use Rattle.std.proofs.lemmas.List.{take_at}
 use Rattle.std.proofs.lemmas.Bool.{eq-eqb, cond-true}
 use Rattle.telling.specs.Layout.{part_of}

@@ -1,4 +1,4 @@
-use Rattle.std.proofs.Common.{◌≡◌, length, sym, ap, ◌∙◌, arith, rules}
+use Rattle.std.proofs.Common.{◌≡◌, length, ap, ◌∙◌, arith, rules}
 use Rattle.protocol.specs.Rules.{size_of}
 use Rattle.protocol.proofs.Rows.{whole_row, sizes_more}
 use Rattle.protocol.proofs.state.Lamp.size.Goals as goal

@@ -1,4 +1,3 @@
-use Rattle.std.proofs.Common.{◌≡◌, length}
 use Rattle.protocol.specs.Memories.{Holds}
 use Rattle.protocol.proofs.state.Lamp.store.Given as goal
 

@@ -1,9 +1,7 @@
-use Rattle.std.proofs.Common.{◌≡◌, ◌<◌, true, false, List, map, length, get_or, Some, Ok, sym, refl, ap, ◌∙◌, arith, rules}
-use Rattle.std.specs.Option.{option_map}
+use Rattle.std.proofs.Common.{◌<◌, true, List, map, length, Some, Ok, sym, ap, ◌∙◌, arith}
 use Rattle.std.proofs.lemmas.List.{get_or-map, length-map}
 use Rattle.telling.specs.declared.Telling.{Telling}
 use Rattle.telling.specs.Layout.{frame_of}
-use Rattle.protocol.specs.Rows.{row_of, places_of}
 use Rattle.protocol.specs.Rules.{nothing, telling_with}
 use Rattle.protocol.specs.Works.{on_wires, frame_to}
 use Rattle.protocol.proofs.Wires.{wire_there, wire_missing, said_there}
