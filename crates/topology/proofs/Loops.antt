@@ -1,8 +1,8 @@
 -- One line or name more in the loops that look at them.
-use Rattle.std.proofs.Common.{◌≡◌, ℕ, ◌+◌, ◌-◌, ◌<◌, ◌≤◌, Bool, true, false, List, [], ◌∷◌, ◌++◌, length, get_or, take, Decides, sym, refl, ap, ◌∙◌, subst, ⊎_elim, arith}
+use Rattle.std.proofs.Common.{◌≡◌, ℕ, ◌+◌, ◌-◌, ◌<◌, ◌≤◌, Bool, true, false, List, [], ◌∷◌, ◌++◌, length, get_or, take, ◌==◌, sym, refl, ap, ◌∙◌, subst, ⊎_elim, arith}
 use Rattle.std.specs.List.{IsAnyAnswer, flat_map}
 use Rattle.std.proofs.lemmas.List.{get_or_default, get_or-take, get_or_push, get_or_append_left, length-take-le, take_more, take_all, flat_map_more, append_assoc, length_push}
-use Rattle.std.proofs.lemmas.Bool.{cases_eq, both_ways}
+use Rattle.std.proofs.lemmas.Bool.{cases_eq, eqb-true, eqb-false}
 use Rattle.protocol.specs.declared.facts.Site.{Site}
 use Rattle.topology.specs.declared.lines.Line.{Line}
 use Rattle.topology.specs.declared.lines.Line.TheVariants.{Wire}
@@ -29,7 +29,7 @@ module _ (lines : List Line) (i : ℕ) (first : Line) (behind : 1 ≤ i) (inside
 
 module _ (names : List ℕ) (i : ℕ) (inside : i < length names) (before : Apart names i) where
   abbrev Found : Bool → Type 0
-  Found r = IsAnyAnswer (λ n t. Decides t (n ≡ get_or names i 0)) (take (i - 0) names) r
+  Found r = IsAnyAnswer (λ n t. (n == get_or names i 0) ≡ t) (take (i - 0) names) r
 
   length_front : length (take (i - 0) names) ≡ i
   length_front = length-take-le (i - 0) names (omega arith) ∙ omega arith
@@ -39,7 +39,7 @@ module _ (names : List ℕ) (i : ℕ) (inside : i < length names) (before : Apar
       ⊎_elim
       (λ same.
       let front = get_or-take (i - 0) names a 0 (omega arith) in
-      both_ways _ refl ((none a 0 (omega arith) (omega (arith, length_front))).1 (front ∙ p.2 ∙ ap (λ k. get_or names k 0) same)))
+      eqb-false _ _ (none a 0 (omega arith) (omega (arith, length_front))) (front ∙ p.2 ∙ ap (λ k. get_or names k 0) same))
       (λ other. before a b (p.0, omega arith, p.2))
       (cases_eq b i)
 
@@ -49,7 +49,7 @@ module _ (names : List ℕ) (i : ℕ) (inside : i < length names) (before : Apar
       record {
         there = inside;
         first = before;
-        before = (found.0, below, sym (get_or-take (i - 0) names found.0 0 (omega arith)) ∙ (found.2 0).0 refl);
+        before = (found.0, below, sym (get_or-take (i - 0) names found.0 0 (omega arith)) ∙ eqb-true _ _ (found.2 0));
       }
 
 -- a loop that adds what each line gives

@@ -54,12 +54,12 @@ pub record Checked (lines : List Line) (most : ℕ) (names : List ℕ) : Type 0 
   pub right : All (RightEnds (length names)) lines
 
 -- what the lamp at a place knows of itself
-abbrev pub field_own : ℕ → List ℕ → ℕ → Own
-field_own most names i = record { most = most; place = i; name = slice_index names i }
+abbrev pub own_at : ℕ → List ℕ → ℕ → Own
+own_at most names i = record { most = most; place = i; name = slice_index names i }
 
 -- each lamp's own numbers and wires are as a lamp asks
 abbrev pub AllSound : ℕ → List ℕ → List Line → Type 0
-AllSound most names lines = (i : ℕ) → i < length names → is_sound (field_own most names i) (places_at i lines) ≡ true
+AllSound most names lines = (i : ℕ) → i < length names → is_sound (own_at most names i) (places_at i lines) ≡ true
 
 -- a site is that of a lamp with these numbers
 abbrev pub OfLamp : Own → List Line → Site → Type 0
@@ -67,7 +67,7 @@ OfLamp own lines site = (site.own ≡ own) × (places_of site ≡ places_at own.
 
 -- the first n sites are those of the lamps
 abbrev pub Stand : ℕ → List ℕ → List Line → List Site → ℕ → Type 0
-Stand most names lines sites n = (i : ℕ) (d : Site) → i < n → OfLamp (field_own most names i) lines (slice_index_or sites i d)
+Stand most names lines sites n = (i : ℕ) (d : Site) → i < n → OfLamp (own_at most names i) lines (slice_index_or sites i d)
 
 -- all sites
 pub record Stands (most : ℕ) (names : List ℕ) (lines : List Line) (sites : List Site) : Type 0 where

@@ -19,29 +19,21 @@ returns-then-not-branch c =
     let made = MatchOption-at_some _ _ c.in-Some.sites c.in-Some.is c.in_ok-sites.ensures in
     breaks_joined c.as_slice.ensures.value c.in_ok-hang_together.ensures c.args.most (stands_described c.requires made) c.if-not-branch.true
 
-pub invariant-of-result : goal.invariant-of-result
-invariant-of-result c =
+pub invariant_of-result : goal.invariant_of-result
+invariant_of-result c =
     let made = MatchOption-at_some _ _ c.in-Some.sites c.in-Some.is c.in_ok-sites.ensures in
     let described = stands_described c.requires made in
-    let long = c.in-Some.sites.ok.0 in (
-      stands_placed c.requires made,
-      (
-        stands_of_most c.requires made,
-        (
-          omega (arith, long, stands_some c.requires made),
-          (
-            omega (arith, long, stands_few c.requires made),
-            (
-              stands_differ c.requires made,
-              (
-                described_within described,
-                (described_both described, (when_joined c.as_slice.ensures.value c.in_ok-hang_together.ensures c.args.most c.if-not-branch.false, tt)),
-              ),
-            ),
-          ),
-        ),
-      ),
-    )
+    let long = c.in-Some.sites.ok.0 in
+    record {
+      placed = stands_placed c.requires made;
+      bounded = stands_of_most c.requires made;
+      some = omega (arith, long, stands_some c.requires made);
+      few = omega (arith, long, stands_few c.requires made);
+      names = stands_differ c.requires made;
+      within = described_within described;
+      both = described_both described;
+      joined = when_joined c.as_slice.ensures.value c.in_ok-hang_together.ensures c.args.most c.if-not-branch.false;
+    }
 
 pub returns : goal.returns
 returns c = stands_described c.requires (MatchOption-at_some _ _ c.in-Some.sites c.in-Some.is c.in_ok-sites.ensures)
