@@ -1,5 +1,5 @@
 -- What a lamp answers to what a line means, what becomes of the lamp, and the text of the answer.
-use Rattle.std.specs.Prelude.{◌≡◌, ℕ, List, [], ◌∷◌, ◌++◌, Some, None, Ok, Err, codes, decimal, Option, Result}
+use Rattle.std.specs.Prelude.{◌≡◌, ℕ, List, [], ◌++◌, Some, None, Ok, Err, codes, decimal, Option, Result}
 use Rattle.std.specs.List.{flat_map}
 use Rattle.telling.specs.declared.frame.Reading.{Reading}
 use Rattle.telling.specs.declared.frame.Reading.TheVariants.{Noise}

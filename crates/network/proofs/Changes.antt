@@ -1,5 +1,5 @@
 -- One slot, or one lamp's numbers, written: what becomes of the state.
-use Rattle.std.proofs.Common.{◌≡◌, ℕ, ◌*◌, ◌≤◌, false, length, sym, refl, ap, ◌∙◌, subst}
+use Rattle.std.proofs.Common.{◌≡◌, ℕ, ◌≤◌, false, length, sym, ap, ◌∙◌, subst}
 use Rattle.telling.specs.declared.Telling.{Telling}
 use Rattle.telling.specs.declared.frame.Reading.{Reading}
 use Rattle.telling.specs.declared.frame.Reading.TheVariants.{Told, Noise}
@@ -9,7 +9,7 @@ use Rattle.model.specs.Nets.{Net, remembering, laid, noted, after_hearing, heari
 use Rattle.topology.specs.declared.hall.Topology.{Topology}
 use Rattle.topology.specs.Reading.{hall_of}
 use Rattle.network.specs.declared.state.State.{State}
-use Rattle.network.specs.Words.{telling_in, numbers_in, reading_in, TellingPut, NumbersPut}
+use Rattle.network.specs.Words.{telling_in, reading_in, TellingPut, NumbersPut}
 use Rattle.network.specs.Slots.{Slot}
 use Rattle.network.specs.Stands.{Roomy, Stands, Becomes, LampsStand, WiresStand, MemoriesStand}
 use Rattle.network.proofs.Tables.{picks, picks_turned, table_put, table_none, table_again, lamps_put, lamps_none}

@@ -1,5 +1,5 @@
 -- Drawing numbers into the state of a hall.
-use Rattle.std.proofs.Common.{◌≡◌, ℕ, ◌+◌, ◌<◌, List, [], length, get_or, take, fold, sym, refl, ap, ◌∙◌, subst}
+use Rattle.std.proofs.Common.{◌≡◌, ℕ, ◌+◌, ◌<◌, List, length, get_or, take, sym, refl, ap, ◌∙◌, subst}
 use Rattle.std.proofs.lemmas.List.Sums.{fold_more}
 use Rattle.telling.specs.declared.Telling.{Telling}
 use Rattle.telling.specs.declared.frame.Reading.TheVariants.{Told}

@@ -1,5 +1,5 @@
 -- The doings of a hall, in any order that exchanges reach, are a round.
-use Rattle.std.proofs.Common.{◌≡◌, ℕ, zero, suc, ◌+◌, ◌%◌, ◌<◌, ◌≤◌, true, false, eqb, List, [], ◌∷◌, ◌++◌, map, length, get_or, vec_items, sym, refl, ap, ◌∙◌, subst, ⊎_elim, mod-lt, arith}
+use Rattle.std.proofs.Common.{◌≡◌, ℕ, zero, suc, ◌%◌, ◌<◌, ◌≤◌, true, eqb, List, [], ◌∷◌, map, length, get_or, vec_items, sym, refl, ap, ◌∙◌, subst, ⊎_elim, mod-lt, arith}
 use Rattle.std.specs.List.Sorted.{IsPermutation}
 use Rattle.std.specs.List.{swap, ContainsAt as Has, flat_map, AllByRecursion as All}
 use Rattle.std.proofs.ByRecursion.{All-append, All-map, all_from_every, has_append_left, has_append_right, all_shuffled, has_shuffled}
@@ -10,8 +10,8 @@ use Rattle.protocol.specs.declared.facts.Site.{Site}
 use Rattle.protocol.specs.Rows.{places_of, has_wire}
 use Rattle.model.specs.declared.Doing.{Doing}
 use Rattle.model.specs.declared.Doing.TheVariants.{Work, Hear}
-use Rattle.model.specs.Halls.{Hall, is_wired}
-use Rattle.model.specs.Rounds.{Fits, Round}
+use Rattle.model.specs.Halls.{is_wired}
+use Rattle.model.specs.Rounds.{Fits}
 use Rattle.topology.specs.declared.hall.Topology.{Topology}
 use Rattle.topology.specs.Reading.{hall_of}
 use Rattle.network.specs.Sequence.{next_of, draw_at}

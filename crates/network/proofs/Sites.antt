@@ -1,15 +1,15 @@
 -- The hall of a topology, by its sites.
-use Rattle.std.proofs.Common.{◌≡◌, ℕ, ◌+◌, ◌*◌, ◌<◌, ◌≤◌, true, false, List, [], ◌∷◌, map, length, get_or, vec_items, vec_len, sym, refl, ap, ◌∙◌, subst, arith}
+use Rattle.std.proofs.Common.{◌≡◌, ℕ, ◌+◌, ◌*◌, ◌<◌, ◌≤◌, false, List, [], map, length, get_or, vec_items, sym, refl, ap, ◌∙◌, subst, arith}
 use Rattle.std.proofs.lemmas.List.{get_or-map, get_or_past, get_or-take, length-map}
 use Rattle.protocol.specs.declared.facts.Site.{Site}
 use Rattle.protocol.specs.Rows.{places_of, has_wire, Wire, NoWire}
 use Rattle.protocol.proofs.Rows.{length-places_of}
-use Rattle.protocol.proofs.Wires.{wire_there, wire_missing}
-use Rattle.model.specs.Halls.{Hall, own_of, is_wired}
+use Rattle.protocol.proofs.Wires.{wire_missing}
+use Rattle.model.specs.Halls.{own_of, is_wired}
 use Rattle.topology.specs.declared.hall.Topology.{Topology}
 use Rattle.topology.specs.Lamps.{hall_in}
 use Rattle.topology.specs.Reading.{hall_of}
-use Rattle.network.specs.Slots.{neighbour, slot_of, Slot, SiteOf}
+use Rattle.network.specs.Slots.{Slot, SiteOf}
 
 module _ (most : ℕ) (sites : List Site) (j : ℕ) where
   -- the neighbours of a lamp are the places of its site

@@ -1,10 +1,7 @@
 -- The net that words stand for.
 use Rattle.std.proofs.Common.{◌≡◌, ℕ, zero, suc, ◌<◌, cond, eqb, List, [], ◌∷◌, length, get_or, sym, refl, ap, ◌∙◌, arith}
 use Rattle.std.proofs.lemmas.Bool.{eq-eqb, ne_eqb, cond-true, cond-false}
-use Rattle.model.specs.Nets.{Net}
-use Rattle.topology.specs.declared.hall.Topology.{Topology}
 use Rattle.topology.specs.Reading.{hall_of}
-use Rattle.network.specs.declared.state.State.{State}
 use Rattle.network.specs.Words.{telling_in, numbers_in, reading_in}
 use Rattle.network.specs.Slots.{neighbour, slot_of}
 use Rattle.network.specs.Laws.{WordsStand}

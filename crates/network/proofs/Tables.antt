@@ -1,5 +1,5 @@
 -- Tables by slots: one slot written, and what the table stands for.
-use Rattle.std.proofs.Common.{◌≡◌, ℕ, zero, suc, ◌+◌, ◌*◌, ◌<◌, ◌≤◌, Bool, true, false, cond, ◌&&◌, eqb, ◌⊎◌, List, [], ◌∷◌, length, get_or, set, vec_items, vec_len, sym, refl, ap, ◌∙◌, subst, inl, inr, ⊎_elim, arith}
+use Rattle.std.proofs.Common.{◌≡◌, ℕ, zero, suc, ◌+◌, ◌*◌, ◌<◌, ◌≤◌, Bool, true, false, cond, ◌&&◌, eqb, List, [], ◌∷◌, length, get_or, set, vec_items, sym, refl, ap, ◌∙◌, subst, ⊎_elim, arith}
 use Rattle.std.proofs.lemmas.List.{get_or-set_same, get_or-set_other}
 use Rattle.std.proofs.lemmas.Bool.{and_parts, and_from, eq-eqb, ne_eqb, eqb-true, leb-true, cases_eq, cases_lt, cases_Bool, cond-true, cond-false, both_ways, or_left, or_right}
 use Rattle.telling.specs.declared.Telling.{Telling}
@@ -8,11 +8,10 @@ use Rattle.protocol.specs.declared.facts.Own.{Own}
 use Rattle.protocol.specs.declared.facts.Site.{Site}
 use Rattle.protocol.specs.declared.state.Numbers.{Numbers}
 use Rattle.protocol.specs.Rows.{places_of, has_wire}
-use Rattle.protocol.specs.Wiring.{may_wire, rises_from, is_sound}
+use Rattle.protocol.specs.Wiring.{rises_from}
 use Rattle.protocol.proofs.Rows.{length-places_of}
 use Rattle.model.specs.Halls.{Hall, is_wired}
 use Rattle.topology.specs.declared.hall.Topology.{Topology}
-use Rattle.topology.specs.Lamps.{hall_in}
 use Rattle.topology.specs.Reading.{hall_of}
 use Rattle.network.specs.Words.{telling_in, numbers_in, reading_in, TellingPut, NumbersPut}
 use Rattle.network.specs.Slots.{neighbour, slot_of, Slot}

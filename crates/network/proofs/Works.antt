@@ -1,9 +1,9 @@
 -- A lamp's work in the state of a hall.
-use Rattle.std.proofs.Common.{◌≡◌, ℕ, zero, suc, ◌+◌, ◌*◌, ◌<◌, ◌≤◌, Bool, true, false, cond, ◌&&◌, ◌||◌, eqb, ◌⊎◌, List, [], ◌∷◌, ◌++◌, map, length, get_or, take, Some, None, vec_items, sym, refl, ap, ◌∙◌, subst, inl, inr, ⊎_elim, arith}
+use Rattle.std.proofs.Common.{◌≡◌, ℕ, ◌+◌, ◌*◌, ◌<◌, ◌≤◌, Bool, true, false, cond, ◌&&◌, ◌||◌, eqb, List, [], ◌∷◌, ◌++◌, map, length, get_or, Some, None, vec_items, sym, refl, ap, ◌∙◌, subst, ⊎_elim, arith}
 use mathlib.Core.Bool.{or_assoc}
 use Rattle.std.specs.Option.{option_map as mapped}
-use Rattle.std.proofs.lemmas.List.{same_lists, get_or-map, length-map, take_more, get_or_past, get_or-take}
-use Rattle.std.proofs.lemmas.Bool.{eq-eqb, eqb-true, ne_eqb, eqb-false, and_right, cond-true, cond-false, cases_Bool, or_left, or_right, or_from}
+use Rattle.std.proofs.lemmas.List.{same_lists, get_or-map, length-map, get_or-take}
+use Rattle.std.proofs.lemmas.Bool.{eq-eqb, eqb-true, ne_eqb, eqb-false, and_right, cond-false, cases_Bool}
 use Rattle.telling.specs.declared.Telling.{Telling}
 use Rattle.telling.specs.declared.frame.Reading.{Reading}
 use Rattle.telling.specs.declared.frame.Reading.TheVariants.{Told}
@@ -17,14 +17,14 @@ use Rattle.protocol.specs.Works.{Worked}
 use Rattle.protocol.specs.Memories.{Recalls}
 use Rattle.protocol.proofs.Rows.{length-row, get_or-row, length-places_of}
 use Rattle.protocol.proofs.Wires.{said_there}
-use Rattle.model.specs.Halls.{Hall, own_of, is_wired}
+use Rattle.model.specs.Halls.{Hall, own_of}
 use Rattle.model.specs.Nets.{Net, row_in, noted, laid, telling, working}
 use Rattle.topology.specs.declared.hall.Topology.{Topology}
 use Rattle.topology.specs.Reading.{hall_of}
 use Rattle.network.specs.declared.state.State.{State}
-use Rattle.network.specs.Words.{telling_in, reading_in}
-use Rattle.network.specs.Slots.{neighbour, slot_of, SiteOf, told_by}
-use Rattle.network.specs.Stands.{Roomy, Stands, Becomes, WiresStand, MemoriesStand}
+use Rattle.network.specs.Words.{telling_in}
+use Rattle.network.specs.Slots.{neighbour, SiteOf, told_by}
+use Rattle.network.specs.Stands.{Roomy, Stands, Becomes, MemoriesStand}
 use Rattle.network.proofs.Sites.{no_lamp}
 use Rattle.network.proofs.Tables.{one_wire}
 use Rattle.network.proofs.Changes.{same_lamps}

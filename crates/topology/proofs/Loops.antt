@@ -1,5 +1,5 @@
 -- One line or name more in the loops that look at them.
-use Rattle.std.proofs.Common.{◌≡◌, ℕ, ◌+◌, ◌-◌, ◌<◌, ◌≤◌, Bool, true, false, List, [], ◌∷◌, ◌++◌, length, get_or, take, ◌==◌, sym, refl, ap, ◌∙◌, subst, ⊎_elim, arith}
+use Rattle.std.proofs.Common.{◌≡◌, ℕ, ◌+◌, ◌-◌, ◌<◌, ◌≤◌, Bool, true, false, List, [], ◌∷◌, ◌++◌, length, get_or, take, ◌==◌, sym, ap, ◌∙◌, subst, ⊎_elim, arith}
 use Rattle.std.specs.List.{IsAnyAnswer, flat_map}
 use Rattle.std.proofs.lemmas.List.{get_or_default, get_or-take, get_or_push, get_or_append_left, length-take-le, take_more, take_all, flat_map_more, append_assoc, length_push}
 use Rattle.std.proofs.lemmas.Bool.{cases_eq, eqb-true, eqb-false}

@@ -1,4 +1,4 @@
-use Rattle.std.proofs.Common.{refl, rules}
+use Rattle.std.proofs.Common.{refl}
 use Rattle.network.specs.Words.{numbers_in}
 use Rattle.network.proofs.words.numbers_in.Goals as goal
 

@@ -1,4 +1,4 @@
-use Rattle.std.proofs.Common.{refl, rules}
+use Rattle.std.proofs.Common.{refl}
 use Rattle.network.specs.Words.{telling_in}
 use Rattle.network.proofs.words.telling_in.Goals as goal
 

@@ -1,5 +1,5 @@
 use Rattle.std.proofs.Common.{◌≡◌, ap, ◌∙◌}
-use Rattle.network.specs.Sequence.{next_of, number_from, after, telling_from}
+use Rattle.network.specs.Sequence.{number_from, after, telling_from}
 use Rattle.network.proofs.draws.Draws.telling.Goals as goal
 
 pub returns : goal.returns

@@ -1,6 +1,5 @@
 use Rattle.std.proofs.Common.{◌≡◌, vec_items, sym, subst, MatchResult}
 use Rattle.topology.specs.Reading.{hall_of}
-use Rattle.network.specs.declared.commands.Command.{Command}
 use Rattle.network.specs.Stands.{Becomes}
 use Rattle.network.specs.Effects.{effect_of}
 use Rattle.network.proofs.state.State.apply.Goals as goal

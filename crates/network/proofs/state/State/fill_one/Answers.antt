@@ -12,9 +12,9 @@ returns-in-Memories c =
 
 pub returns-in-Wires : goal.returns-in-Wires
 returns-in-Wires c =
-    drawn_as (hall_of c.args.hall.now) c.args.self.now c.lay.new.self c.args.draws.now.state c.telling_in-Wires.new.self.state c.args.part Wires c.args.doing (Hear c.in-Hear.first c.in-Hear.second)
+    drawn_as (hall_of c.args.hall.now) c.args.self.now c.lay.new.self c.args.draws.now.state c.telling-in-Wires.new.self.state c.args.part Wires c.args.doing (Hear c.in-Hear.first c.in-Hear.second)
     c.in-Wires.is c.in-Hear.is
-    (wire_drawn _ _ _ _ _ c.in-Hear.first c.in-Hear.second c.telling_in-Wires.result c.telling_in-Wires.ensures.value c.telling_in-Wires.ensures.next c.lay.ensures)
+    (wire_drawn _ _ _ _ _ c.in-Hear.first c.in-Hear.second c.telling-in-Wires.result c.telling-in-Wires.ensures.value c.telling-in-Wires.ensures.next c.lay.ensures)
 
 pub returns-in-Lamps : goal.returns-in-Lamps
 returns-in-Lamps c =

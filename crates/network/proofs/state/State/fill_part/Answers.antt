@@ -1,4 +1,4 @@
-use Rattle.std.proofs.Common.{get_or, subst}
+use Rattle.std.proofs.Common.{subst}
 use Rattle.std.proofs.lemmas.List.{take_all}
 use Rattle.topology.specs.Reading.{hall_of}
 use Rattle.network.specs.Stands.{BecomesDrawn}

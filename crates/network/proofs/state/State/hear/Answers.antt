@@ -1,5 +1,5 @@
-use Rattle.std.proofs.Common.{◌≡◌, sym, refl, ap, ◌∙◌, arith}
-use Rattle.network.proofs.Tables.{slot_wired, slot_below}
+use Rattle.std.proofs.Common.{refl, arith}
+use Rattle.network.proofs.Tables.{slot_below}
 use Rattle.network.proofs.Changes.{heard_none, heard_noise, heard_told, other_memories}
 use Rattle.network.proofs.state.State.hear.Goals as goal
 

@@ -1,14 +1,14 @@
-use Rattle.std.proofs.Common.{◌≡◌, ◌<◌, length, sym, refl, ap, ◌∙◌, arith, length-set, rules}
-use Rattle.telling.specs.declared.frame.Reading.TheVariants.{Told, Noise}
-use Rattle.network.proofs.Tables.{slot_wired, slot_below, reading_told, reading_others}
+use Rattle.std.proofs.Common.{◌<◌, length, refl, arith, length-set, rules}
+use Rattle.telling.specs.declared.frame.Reading.TheVariants.{Told}
+use Rattle.network.proofs.Tables.{slot_below, reading_told, reading_others}
 use Rattle.network.proofs.Changes.{same_wires, other_wires}
 use Rattle.network.proofs.state.State.lay.Goals as goal
 
 pub put_telling-requires : goal.put_telling-requires
 put_telling-requires c = omega (arith, slot_below c.args.hall.now c.in-Some.ensures, c.requires.wires)
 
-pub offset-bounds-self-slot : goal.offset-bounds-self-slot
-offset-bounds-self-slot c =
+pub offset_bounds-self-slot : goal.offset_bounds-self-slot
+offset_bounds-self-slot c =
     let inside : c.in-Some.slot < length c.args.self.now.noise.now = omega (arith, slot_below c.args.hall.now c.in-Some.ensures, c.requires.noise) in
     search rules
 

@@ -1,5 +1,4 @@
-use Rattle.std.proofs.Common.{◌≡◌, length, sym, refl, ap, ◌∙◌, arith}
-use Rattle.std.proofs.lemmas.Bool.{lt-ltb, le-ltb}
+use Rattle.std.proofs.Common.{length, refl, ap, arith}
 use Rattle.network.proofs.Changes.{same_lamps, other_lamps}
 use Rattle.network.proofs.state.State.note.Goals as goal
 

@@ -1,5 +1,5 @@
-use Rattle.std.proofs.Common.{◌≡◌, sym, refl, ap, ◌∙◌, arith}
-use Rattle.network.proofs.Tables.{slot_wired, slot_below}
+use Rattle.std.proofs.Common.{refl, arith}
+use Rattle.network.proofs.Tables.{slot_below}
 use Rattle.network.proofs.Changes.{same_memories, other_memories}
 use Rattle.network.proofs.state.State.remember.Goals as goal
 

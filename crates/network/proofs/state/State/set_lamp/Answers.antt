@@ -2,7 +2,7 @@ use Rattle.std.proofs.Common.{length, ap, ◌∙◌, arith}
 use Rattle.topology.specs.Reading.{hall_of}
 use Rattle.model.specs.Nets.{noted}
 use Rattle.network.specs.Effects.{with_number}
-use Rattle.network.proofs.Changes.{become_as, same_as, same_lamps}
+use Rattle.network.proofs.Changes.{become_as}
 use Rattle.network.proofs.state.State.set_lamp.Goals as goal
 
 pub numbers-numbers-requires : goal.numbers-numbers-requires

@@ -1,5 +1,4 @@
-use Rattle.std.proofs.Common.{◌≡◌, ◌+◌, ◌*◌, length, sym, ap, ◌∙◌, subst, rules}
-use Rattle.std.proofs.lemmas.Bool.{lt-ltb, le-ltb}
+use Rattle.std.proofs.Common.{◌≡◌, ◌+◌, ◌*◌, length, ap, subst, rules}
 use Rattle.protocol.specs.Memories.{Recalls}
 use Rattle.topology.specs.Reading.{hall_of}
 use Rattle.protocol.specs.Rows.{places_of}
