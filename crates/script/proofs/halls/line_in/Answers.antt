@@ -12,9 +12,9 @@ four_words :
     words ≡ verb ∷ words2 → words2 ≡ first ∷ words3 → words3 ≡ second ∷ words_of behind → Unknown ≡ line_by words
 four_words behind e f g = rw (e, f, g, words_cut behind) refl
 
-pub returns-in-Some-default-2 : goal.returns-in-Some-default-2
-returns-in-Some-default-2 c =
+pub returns-in-Some-rest-2 : goal.returns-in-Some-rest-2
+returns-in-Some-rest-2 c =
     four_words _
     (behind_word c.in-Some.is c.cut.ensures.words)
-    (behind_word c.in-Some-default.is c.cut-2.ensures.words)
-    (behind_word c.in-Some-default-2.is c.cut-3.ensures.words)
+    (behind_word c.in-Some-rest.is c.cut-2.ensures.words)
+    (behind_word c.in-Some-rest-2.is c.cut-3.ensures.words)

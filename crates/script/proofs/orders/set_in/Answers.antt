@@ -13,8 +13,8 @@ five-words :
     words ≡ third ∷ words2 → words2 ≡ fourth ∷ words_of behind → Unknown ≡ set_by kind first second words
 five-words kind first second behind e f = rw (e, f, words_cut behind) refl
 
-pub returns-in-Some-default-2 : goal.returns-in-Some-default-2
-returns-in-Some-default-2 c =
+pub returns-in-Some-rest-2 : goal.returns-in-Some-rest-2
+returns-in-Some-rest-2 c =
     five-words c.args.kind.now c.args.first.now c.args.second.now _
-    (ap (λ rest. words_behind (option_map (λ x. x.now) rest)) c.in-Some.is ∙ behind_word c.in-Some-default.is c.cut.ensures.words)
-    (behind_word c.in-Some-default-2.is c.cut-2.ensures.words)
+    (ap (λ rest. words_behind (option_map (λ x. x.now) rest)) c.in-Some.is ∙ behind_word c.in-Some-rest.is c.cut.ensures.words)
+    (behind_word c.in-Some-rest-2.is c.cut-2.ensures.words)
