@@ -1,23 +1,20 @@
 // A whole hall: reads a hall file and a script, carries the script out, and prints.
 #![tactic(auto)]
 
-use libc::isatty;
 use network::commands::Command;
 use network::state::State;
 use script::halls::lines_of;
 use script::orders::commands_of;
 use script::performing::perform;
 use std::alloc::AllocError;
-use std::io::Read;
+use std::io::{IsTerminal, Read};
+use std::process::ExitCode;
 use std::{env, fs, io};
 use telling::refusal::Refusal;
 use topology::fault::{Fault, Reason, Refused};
 use topology::hall::Topology;
 
 const USAGE: &str = "hall takes FILE, or --progress FILE";
-
-// Standard error, to the system.
-const STDERR: i32 = 2;
 
 // Why the program ends early.
 #[derive(Drop)]
@@ -55,12 +52,15 @@ struct Asked {
     progress: bool,
 }
 
-fn main(rt: HostRuntime) -> Result<(), Stop> {
-    let ended = run(&rt);
-    if let Err(stop) = &ended {
-        let _ = explain(&rt, stop);
+// The reason is told in a line of its own, and the status is all that is left to say.
+fn main(rt: HostRuntime) -> ExitCode {
+    match run(&rt) {
+        Ok(()) => ExitCode::SUCCESS,
+        Err(stop) => {
+            let _ = explain(&rt, &stop);
+            ExitCode::FAILURE
+        }
     }
-    ended
 }
 
 fn explain(rt: &HostRuntime, stop: &Stop) -> io::Result<()> {
@@ -85,7 +85,7 @@ fn run(rt: &HostRuntime) -> Result<(), Stop> {
     let asked = arguments(rt)?;
     let hall = hall_of(rt, asked.path.as_str())?;
     let script = script(rt)?;
-    let progress = asked.progress || isatty(STDERR) == 1;
+    let progress = asked.progress || rt.stderr().is_terminal();
     start(rt, &hall, script.as_slice(), progress)
 }
 

@@ -9,6 +9,7 @@ use protocol::facts::Site;
 use protocol::state::Lamp;
 use std::alloc::AllocError;
 use std::io::{BufRead, BufReader};
+use std::process::ExitCode;
 use std::{env, fs, io};
 use telling::refusal::Refusal;
 use text::line_of;
@@ -46,12 +47,15 @@ impl From<Fault> for Stop {
     }
 }
 
-fn main(rt: HostRuntime) -> Result<(), Stop> {
-    let ended = run(&rt);
-    if let Err(stop) = &ended {
-        let _ = explain(&rt, stop);
+// The reason is told in a line of its own, and the status is all that is left to say.
+fn main(rt: HostRuntime) -> ExitCode {
+    match run(&rt) {
+        Ok(()) => ExitCode::SUCCESS,
+        Err(stop) => {
+            let _ = explain(&rt, &stop);
+            ExitCode::FAILURE
+        }
     }
-    ended
 }
 
 fn explain(rt: &HostRuntime, stop: &Stop) -> io::Result<()> {
