@@ -1,7 +1,6 @@
 -- The best that a lamp finds, going through its neighbours.
-use Rattle.std.proofs.Common.{◌≡◌, ℕ, zero, suc, ◌+◌, ◌<◌, ◌≤◌, Bool, true, false, cond, ◌&&◌, ◌||◌, eqb, ltb, ◌⊎◌, List, [], ◌∷◌, map, fold, sym, refl, ap, ◌∙◌, subst, inl, inr, ⊎_elim, arith}
-use Rattle.std.proofs.lemmas.Bool.{or_cases, or_left, or_right, and_parts, and_from, eqb-true, eq-eqb, ne_eqb, lt-ltb, le-ltb, ltb-true, cases_Bool, cases_lt, cases_eq, both_ways, cond-true, cond-false, cond_both}
-use Rattle.std.proofs.lemmas.Bool.Decides.{nat_tests}
+use Rattle.std.proofs.Common.{◌≡◌, ℕ, ◌<◌, ◌≤◌, Bool, true, false, ◌&&◌, ◌||◌, eqb, ltb, List, [], ◌∷◌, map, fold, sym, refl, ap, ◌∙◌, ⊎_elim, arith}
+use Rattle.std.proofs.lemmas.Bool.{or_cases, or_left, or_right, and_parts, and_from, eqb-true, eq-eqb, lt-ltb, ltb-true, cases_Bool, cases_eq, both_ways, cond-true, cond-false, cond_both}
 use Rattle.telling.specs.declared.Telling.{Telling}
 use Rattle.protocol.specs.declared.work.Best.{Best}
 use Rattle.protocol.specs.Rows.{Neighbour, has_wire}

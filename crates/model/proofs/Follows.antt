@@ -1,13 +1,12 @@
 -- Sizes, totals and numbers: right at a lamp once its neighbours have their right places and what it takes from them is right.
-use Rattle.std.proofs.Common.{◌≡◌, ℕ, suc, ◌+◌, ◌<◌, ◌≤◌, min, Bool, true, false, cond, ◌&&◌, eqb, List, sum_by, filter, sym, refl, ap, ◌∙◌, ⊎_elim, arith}
+use Rattle.std.proofs.Common.{◌≡◌, ℕ, suc, ◌+◌, ◌<◌, ◌≤◌, min, Bool, true, false, cond, ◌&&◌, eqb, List, filter, sym, refl, ap, ◌∙◌, ⊎_elim, arith}
 use Rattle.std.proofs.lemmas.Bool.{eqb-true, eq-eqb, ne_eqb, cases_eq, cond-true, cond-false}
 use Rattle.telling.specs.declared.Telling.{Telling}
-use Rattle.protocol.specs.declared.state.Numbers.{Numbers}
 use Rattle.protocol.specs.Rows.{Neighbour}
 use Rattle.protocol.specs.Rules.{further, best_of, is_child, sizes, telling_at, numbers_of, worked, is_before, given_to}
 use Rattle.model.specs.Halls.{Hall, Sound, own_of, is_wired}
 use Rattle.model.specs.Nets.{row_from}
-use Rattle.model.specs.Assignment.{root_of, distance_of, parent_of, children_of, size_of, sizes_before, number_of, right_numbers, right_telling}
+use Rattle.model.specs.Assignment.{root_of, distance_of, parent_of, size_of, number_of, right_numbers, right_telling}
 use Rattle.model.specs.Stages.{told_from, LeadsTo}
 use Rattle.model.specs.Trees.{Counted}
 use Rattle.model.proofs.Facts.{Facts}

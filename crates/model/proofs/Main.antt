@@ -1,25 +1,17 @@
 -- The stages one after the other, and the promise.
-use Rattle.std.proofs.Common.{◌≡◌, ℕ, zero, suc, ◌+◌, ◌-◌, ◌*◌, ◌<◌, ◌≤◌, true, List, [], ◌∷◌, ◌++◌, sym, refl, ap, ◌∙◌, subst, append-nil, arith}
+use Rattle.std.proofs.Common.{◌≡◌, ℕ, ◌-◌, ◌<◌, ◌∙◌, arith}
 use Rattle.telling.specs.declared.Telling.{Telling}
-use Rattle.telling.specs.declared.frame.Reading.TheVariants.{Told}
-use Rattle.protocol.specs.declared.state.Numbers.{Numbers}
-use Rattle.model.specs.declared.Doing.{Doing}
-use Rattle.model.specs.declared.Doing.TheVariants.{Hear}
 use Rattle.model.specs.Halls.{Hall, Sound}
-use Rattle.model.specs.Nets.{Net, ran}
-use Rattle.model.specs.Rounds.{Fits, AllFit, Round, Rounds, flat, enough}
-use Rattle.model.specs.Assignment.{root_of, distance_of, right_numbers, right_telling}
-use Rattle.model.specs.Promise.{Lowest, Shortest, Right, ComesRight, StaysSo, Settles, AssignmentRight, Promise}
-use Rattle.model.specs.Stages.{Throughout, LeadsTo, FreshOrFar, StaleExpires, LowestArrives, AllRight, NumbersFollow}
-use Rattle.model.specs.Stable.{Stable, Rests, StableRests, StableExists, BecomesStable}
+use Rattle.model.specs.Nets.{Net}
+use Rattle.model.specs.Assignment.{right_numbers, right_telling}
+use Rattle.model.specs.Stages.{Throughout, LeadsTo, FreshOrFar}
+use Rattle.model.specs.Stable.{Stable}
 use Rattle.model.proofs.Facts.{Facts}
-use Rattle.model.proofs.Distances.{facts, shortest}
-use Rattle.model.proofs.Doings.{ran_append, rounds_fit, after_both}
-use Rattle.model.proofs.Ladder.{kept, lamps_after, climb}
-use Rattle.model.proofs.Rests.{stable_same, stable_ran, stable_climb, stable_after}
-use Rattle.model.proofs.Stale.{stale_climbs, less_far, not_near}
-use Rattle.model.proofs.Arrival.{Placed, Arrived, arrival_climbs, arrived_less, best_is, offers_fresh}
-use Rattle.model.proofs.Follows.{Counts, count, worked_right, Sized, sized_climbs, sized_less, NumberedTo, numbers_climb, numbered_less, telling_right, right_numbered}
+use Rattle.model.proofs.Distances.{facts}
+use Rattle.model.proofs.Rests.{stable_climb}
+use Rattle.model.proofs.Stale.{stale_climbs, not_near}
+use Rattle.model.proofs.Arrival.{Arrived, arrival_climbs}
+use Rattle.model.proofs.Follows.{worked_right, Sized, sized_climbs, NumberedTo, numbers_climb, telling_right, right_numbered}
 
 module _ (h : Hall) (s : Sound h) where
   abbrev f : Facts h

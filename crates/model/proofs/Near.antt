@@ -1,9 +1,8 @@
 -- Lamps near to the root, and the ways that lead to them: every lamp of a sound hall is nearer than there are lamps.
-use Rattle.std.proofs.Common.{◌≡◌, ℕ, zero, suc, ◌+◌, ◌-◌, ◌<◌, ◌≤◌, Bool, true, false, cond, ◌||◌, eqb, ltb, ◌⊎◌, sym, refl, ap, ◌∙◌, subst, inl, inr, ⊎_elim, arith}
-use Rattle.std.proofs.lemmas.Bool.{or_cases, or_left, or_right, eqb-true, eq-eqb, cases_Bool, cases_lt, cases_eq, both_ways, cond-true, cond-false, cond_both, ltb-true, ltb-false}
-use Rattle.protocol.specs.Rows.{has_wire}
+use Rattle.std.proofs.Common.{◌≡◌, ℕ, zero, suc, ◌+◌, ◌-◌, ◌<◌, ◌≤◌, Bool, true, false, cond, ltb, ◌⊎◌, sym, refl, ap, ◌∙◌, subst, inl, inr, ⊎_elim, arith}
+use Rattle.std.proofs.lemmas.Bool.{or_cases, or_left, or_right, eqb-true, eq-eqb, cases_Bool, cases_lt, both_ways, cond_both, ltb-true, ltb-false}
 use Rattle.model.specs.Halls.{Hall, Way, stay, step, Sound, is_wired}
-use Rattle.model.specs.Assignment.{lowest_of, root_of, any_of, is_near}
+use Rattle.model.specs.Assignment.{lowest_of, root_of, is_near}
 use Rattle.model.specs.Trees.{sum_below}
 use Rattle.model.specs.Promise.{Lowest}
 use Rattle.model.proofs.Places.{any_found, any_from}

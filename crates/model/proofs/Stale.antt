@@ -1,11 +1,11 @@
 -- Stale information: one work leaves none that is told nearer than one wire more.
-use Rattle.std.proofs.Common.{◌≡◌, ℕ, zero, suc, ◌+◌, ◌<◌, ◌≤◌, true, ◌⊎◌, sym, refl, ap, ◌∙◌, subst, inl, inr, ⊎_elim, arith}
+use Rattle.std.proofs.Common.{◌≡◌, ℕ, zero, suc, ◌<◌, ◌≤◌, true, ◌⊎◌, sym, refl, ap, ◌∙◌, inl, inr, arith}
 use Rattle.telling.specs.declared.Telling.{Telling}
 use Rattle.protocol.specs.declared.work.Best.{Best}
-use Rattle.protocol.specs.Rules.{further, beginning, best_of, told_to, telling_with}
+use Rattle.protocol.specs.Rules.{further, beginning, best_of, told_to}
 use Rattle.model.specs.Halls.{Hall, Way, stay, step, Sound, own_of, is_wired}
 use Rattle.model.specs.Nets.{row_from}
-use Rattle.model.specs.Stages.{told_from, LeadsTo, Fresh, FreshOrFar}
+use Rattle.model.specs.Stages.{told_from, LeadsTo, FreshOrFar}
 use Rattle.model.proofs.Best.{in_row, at_place, best_by}
 
 -- what lamp i tells a neighbour is what the rules say of its row

@@ -1,5 +1,5 @@
 -- A net: what the lamps of a hall have worked out, what lies on their wires and what they remember, all of it anything at all; and what one doing makes of it.
-use Rattle.std.specs.Prelude.{ℕ, Bool, cond, ◌&&◌, List, [], ◌∷◌, map, ◌==◌}
+use Rattle.std.specs.Prelude.{ℕ, cond, ◌&&◌, List, [], ◌∷◌, map, ◌==◌}
 use Rattle.telling.specs.declared.Telling.{Telling}
 use Rattle.telling.specs.declared.frame.Reading.{Reading}
 use Rattle.telling.specs.declared.frame.Reading.TheVariants.{Told, Noise}

@@ -2,7 +2,6 @@
 use Rattle.std.specs.Prelude.{◌≡◌, ℕ, suc, ◌*◌, ◌<◌, ◌≤◌, Bool, true, ◌⊎◌, List}
 use Rattle.telling.specs.declared.Telling.{Telling}
 use Rattle.telling.specs.declared.frame.Reading.TheVariants.{Told}
-use Rattle.protocol.specs.declared.state.Numbers.{Numbers}
 use Rattle.protocol.specs.Rules.{tells, telling_at}
 use Rattle.model.specs.declared.Doing.{Doing}
 use Rattle.model.specs.declared.Doing.TheVariants.{Hear}
