@@ -17,7 +17,7 @@ TOKEN = re.compile(r"[A-Za-z_][\w'-]*")
 MADE = ("Answers.antt", "Invariants.antt", "Proof.antt")
 DEFINED = re.compile(r"\s*(?:(?:unfoldable|abbrev|pub|private)\s+)*([A-Za-z_][\w'-]*)\s*:(?:\s|$)")
 TYPED = re.compile(r"\s*(?:pub\s+)?(?:record|data)\s+(?:pub\s+)?([A-Za-z_][\w'-]*)")
-OUTER = ("length-", "getD-")
+OUTER = ("length-", "getD-", "get_or-")
 # names that would fall together with another one of the same file
 APART = {
     "after-hearing": "heard_after_hearing",
@@ -58,7 +58,7 @@ def spelled(name):
 def renamings():
     found = {}
     for p in texts():
-        if p.endswith(".rt") or os.path.basename(p) in MADE:
+        if p.endswith(".rt") or "/proofs/" in p and os.path.basename(p) in MADE:
             continue
         for line in read(p).splitlines():
             for pattern in (DEFINED, TYPED):

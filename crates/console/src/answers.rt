@@ -1,7 +1,7 @@
 // What a lamp answers to an order, and the text of that.
 ghost use Rattle.std.specs.Prelude.{◌≡◌, IfOk, string_bytes};
 ghost use Rattle.console.specs.Lines.{meant};
-ghost use Rattle.console.specs.Answers.{Answered, heardAs, toldAs, shownAs, text_of, framesText, lineText, refusalText, frameText, numbersText};
+ghost use Rattle.console.specs.Answers.{Answered, heard_as, told_as, shown_as, text_of, frames_text, line_text, refusal_text, frame_text, numbers_text};
 
 use super::orders::Order;
 use protocol::state::{Lamp, Numbers};
@@ -26,7 +26,7 @@ pub enum Answer {
 
 impl Answer {
     fn heard(refusal: Option<Refusal>) -> Answer
-        ensures { result ≡ heardAs refusal }
+        ensures { result ≡ heard_as refusal }
     {
         match refusal {
             Some(refusal) => Answer::Refused(refusal),
@@ -36,7 +36,7 @@ impl Answer {
 
     // The answer to what lies on the wire to a place.
     fn told(place: u32, told: Result<Option<[u8; FRAME]>, Refusal>) -> Answer
-        ensures { result ≡ toldAs place told }
+        ensures { result ≡ told_as place told }
     {
         match told {
             Ok(Some(frame)) => Answer::Frame(place, frame),
@@ -46,7 +46,7 @@ impl Answer {
     }
 
     fn shown(shown: Option<Numbers>) -> Answer
-        ensures { result ≡ shownAs shown }
+        ensures { result ≡ shown_as shown }
     {
         match shown {
             Some(numbers) => Answer::Numbers(numbers),
@@ -83,7 +83,7 @@ pub fn text_of(heap: Global, lamp: &Lamp, answer: Answer) -> Result<String, Allo
 }
 
 fn frames_text(heap: Global, lamp: &Lamp) -> Result<String, AllocError>
-    ensures { IfOk result (λ t. string_bytes t ≡ framesText lamp.now) }
+    ensures { IfOk result (λ t. string_bytes t ≡ frames_text lamp.now) }
 {
     let mut text = String::new(heap);
     for place in lamp.places() {
@@ -94,7 +94,7 @@ fn frames_text(heap: Global, lamp: &Lamp) -> Result<String, AllocError>
 }
 
 fn line_text(heap: Global, answer: Answer) -> Result<String, AllocError>
-    ensures { IfOk result (λ t. string_bytes t ≡ lineText answer) }
+    ensures { IfOk result (λ t. string_bytes t ≡ line_text answer) }
 {
     match answer {
         Answer::Silence | Answer::Frames => Ok(String::new(heap)),
@@ -106,21 +106,21 @@ fn line_text(heap: Global, answer: Answer) -> Result<String, AllocError>
 }
 
 pub fn refusal_text(heap: Global, refusal: Refusal) -> Result<String, AllocError>
-    ensures { IfOk result (λ t. string_bytes t ≡ refusalText refusal) }
+    ensures { IfOk result (λ t. string_bytes t ≡ refusal_text refusal) }
 {
     let number = refusal.number();
     format!(in heap; "{number}\n")
 }
 
 fn frame_text(heap: Global, place: u32, frame: &[u8]) -> Result<String, AllocError>
-    ensures { IfOk result (λ t. string_bytes t ≡ frameText place frame.now) }
+    ensures { IfOk result (λ t. string_bytes t ≡ frame_text place frame.now) }
 {
     let hex = hex_of(heap, frame)?;
     format!(in heap; "{place} {hex}\n")
 }
 
 pub fn numbers_text(heap: Global, numbers: Numbers) -> Result<String, AllocError>
-    ensures { IfOk result (λ t. string_bytes t ≡ numbersText numbers) }
+    ensures { IfOk result (λ t. string_bytes t ≡ numbers_text numbers) }
 {
     let Numbers {
         best,

@@ -1,6 +1,6 @@
 -- Doings one after the other: rounds in lists, what one doing does to lamps, wires and memories, and what is true after many.
 use Rattle.std.proofs.Common.{◌≡◌, ℕ, zero, suc, ◌+◌, ◌<◌, true, ◌&&◌, eqb, List, [], ◌∷◌, ◌++◌, length, sym, refl, ap, ◌∙◌, subst, subst₂, append_assoc, arith}
-use Rattle.std.specs.List.{HoldsAt, ContainsAt as Has}
+use Rattle.std.specs.List.{HoldsAt, ContainsAt}
 use Rattle.std.proofs.ByRecursion.{All-append}
 use Rattle.std.proofs.lemmas.Bool.{eqb-true, eq-eqb, and_parts, and_from, cond-true, cond_both}
 use Rattle.telling.specs.declared.Telling.{Telling}
@@ -81,7 +81,7 @@ module _ (h : Hall) where
           (keeps (λ m. A m × G m) (λ y f m p. (keep y f m p.0, still y f m p.0 p.1)) ds fit.1 (did h x n) (keep x fit.0 n a, here)).1
       made_at (x ∷ ds) (suc k) l is fit n a = made_at ds k (omega arith) is fit.1 (did h x n) (keep x fit.0 n a)
 
-      pub made_in : (ds : List Doing) → AllFit h ds → Has ds d → (n : Net) → A n → G (ran h ds n)
+      pub made_in : (ds : List Doing) → AllFit h ds → ContainsAt ds d → (n : Net) → A n → G (ran h ds n)
       made_in ds fit has n a = made_at ds has.0 has.1 has.2 fit n a
 
 -- what is remembered after hearing: what was told, or what was remembered before

@@ -9,7 +9,7 @@ use Rattle.protocol.specs.Wiring.{rises_from}
 use Rattle.model.specs.Halls.{Hall, Sound, own_of, is_wired}
 use Rattle.model.specs.Nets.{row_from}
 use Rattle.model.specs.Assignment.{root_of, distance_of, parent_of, children_of, size_within, size_of, sizes_before, number_at, number_of}
-use Rattle.model.specs.Trees.{Tree, is_child_of, IsTree, child_sizes, sizes_before as tree-sizesBefore, Numbered, Counted, TreesCount}
+use Rattle.model.specs.Trees.{Tree, is_child_of, IsTree, child_sizes, sizes_before as tree_sizes_before, Numbered, Counted, TreesCount}
 use Rattle.model.proofs.Facts.{Facts}
 use Rattle.model.proofs.Sums.{sum_same}
 use Rattle.model.proofs.Lists.{sum_kept, sum_mapped, sum_passing, rising_from, sum_places}
@@ -149,7 +149,7 @@ module _ (h : Hall) (s : Sound h) (f : Facts h) where
       sum_places (own_of h i) (λ c. cond (test c) (g c) 0) h.count (h.neighbours i) 0 (rises i l) (λ c w. s.within i c (l, w)) ∙
       sum_same _ _ h.count (λ c k. cond_and (is_wired h i c) (test c) (g c) ∙ ap (λ b. cond b (g c) 0) (same_children i c l k))
 
-  before_in_tree : (i j : ℕ) → i < h.count → sizes_before h i j ≡ tree-sizesBefore (tree h) (size_of h) i j
+  before_in_tree : (i j : ℕ) → i < h.count → sizes_before h i j ≡ tree_sizes_before (tree h) (size_of h) i j
   before_in_tree i j l =
       sum_kept (size_of h) (λ c. ltb c j) (children_of h i) ∙
       sum_in_tree (λ c. cond (ltb c j) (size_of h c) 0) i l ∙

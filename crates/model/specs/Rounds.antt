@@ -1,7 +1,7 @@
 -- Rounds: lists of doings in which every lamp works and every wire is heard from both ends.
--- `All P xs` says P of each element of a list, and `Has xs x` that x stands at some place of it.
+-- `AllByRecursion P xs` says P of each element of a list, and `ContainsAt xs x` that x stands at some place of it.
 use Rattle.std.specs.Prelude.{◌≡◌, ℕ, zero, suc, ◌*◌, ◌<◌, true, List, [], ◌∷◌, ◌++◌}
-use Rattle.std.specs.List.{ContainsAt as Has, AllByRecursion as All}
+use Rattle.std.specs.List.{ContainsAt, AllByRecursion}
 use Rattle.model.specs.declared.Doing.{Doing}
 use Rattle.model.specs.declared.Doing.TheVariants.{Work, Hear}
 use Rattle.model.specs.Halls.{Hall, is_wired}
@@ -13,12 +13,12 @@ Fits h (Hear j i) = (j < h.count) × (is_wired h j i ≡ true)
 
 -- all doings of a list are of this hall
 abbrev pub AllFit : Hall → List Doing → Type 0
-AllFit h ds = All (Fits h) ds
+AllFit h ds = AllByRecursion (Fits h) ds
 
 -- a round: every lamp's work and every wire's hearing from both ends, in any order, as often as one likes, and nothing that is not of this hall
 pub record Round (h : Hall) (ds : List Doing) : Type 0 where
   pub fits : AllFit h ds
-  pub whole : (d : Doing) → Fits h d → Has ds d
+  pub whole : (d : Doing) → Fits h d → ContainsAt ds d
 
 -- so many rounds, one after the other
 unfoldable pub Rounds : Hall → ℕ → List (List Doing) → Type 0

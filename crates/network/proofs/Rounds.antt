@@ -1,7 +1,7 @@
 -- The doings of a hall, in any order that exchanges reach, are a round.
 use Rattle.std.proofs.Common.{◌≡◌, ℕ, zero, suc, ◌%◌, ◌<◌, ◌≤◌, true, eqb, List, [], ◌∷◌, map, length, get_or, vec_items, sym, refl, ap, ◌∙◌, subst, ⊎_elim, mod-lt, arith}
 use Rattle.std.specs.List.Sorted.{IsPermutation}
-use Rattle.std.specs.List.{swap, ContainsAt as Has, flat_map, AllByRecursion as All}
+use Rattle.std.specs.List.{swap, ContainsAt, flat_map, AllByRecursion}
 use Rattle.std.proofs.ByRecursion.{All-append, All-map, all_from_every, has_append_left, has_append_right, all_shuffled, has_shuffled}
 use Rattle.std.proofs.lemmas.List.{get_or-map, length-map, get_or_default}
 use Rattle.std.proofs.lemmas.List.Sorted.{IsPermutation-refl, IsPermutation-trans, length_permutation}
@@ -34,16 +34,16 @@ only_reordered (suc k) s ds l =
     IsPermutation-trans ds (swap ds k other) _ once (only_reordered k (next_of s) (swap ds k other) (omega (arith, length_permutation ds (swap ds k other) once)))
 
 -- lists that the elements of a list give
-all_joined : {X Y : Type 0} (P : Y → Type 0) (f : X → List Y) (xs : List X) → All (λ x. All P (f x)) xs → All P (flat_map f xs)
+all_joined : {X Y : Type 0} (P : Y → Type 0) (f : X → List Y) (xs : List X) → AllByRecursion (λ x. AllByRecursion P (f x)) xs → AllByRecursion P (flat_map f xs)
 all_joined P f [] a = tt
 all_joined P f (x ∷ xs) a = All-append P (f x) (flat_map f xs) a.0 (all_joined P f xs a.1)
 
-has_joined : {X Y : Type 0} (f : X → List Y) (xs : List X) (k : ℕ) (d : X) (y : Y) → k < length xs → Has (f (get_or xs k d)) y → Has (flat_map f xs) y
+has_joined : {X Y : Type 0} (f : X → List Y) (xs : List X) (k : ℕ) (d : X) (y : Y) → k < length xs → ContainsAt (f (get_or xs k d)) y → ContainsAt (flat_map f xs) y
 has_joined f [] k d y l has = absurd (omega arith)
 has_joined f (x ∷ xs) zero d y l has = has_append_left (f x) (flat_map f xs) y has
 has_joined f (x ∷ xs) (suc k) d y l has = has_append_right (f x) (flat_map f xs) y (has_joined f xs k d y (omega arith) has)
 
-has_map : {X Y : Type 0} (f : X → Y) (xs : List X) (k : ℕ) (d : X) (y : Y) → k < length xs → f (get_or xs k d) ≡ y → Has (map f xs) y
+has_map : {X Y : Type 0} (f : X → Y) (xs : List X) (k : ℕ) (d : X) (y : Y) → k < length xs → f (get_or xs k d) ≡ y → ContainsAt (map f xs) y
 has_map f xs k d y l e = (k, omega (arith, length-map xs f), λ z. get_or-map f xs k d z l ∙ e)
 
 -- where a place stands that is wired
@@ -59,12 +59,12 @@ module _ (t : Topology) where
   abbrev sites : List Site
   sites = vec_items t.sites
 
-  works_fit : All (Fits (hall_of t)) (map (λ (s : Site). Work s.own.place) sites)
+  works_fit : AllByRecursion (Fits (hall_of t)) (map (λ (s : Site). Work s.own.place) sites)
   works_fit =
       All-map (Fits (hall_of t)) (λ (s : Site). Work s.own.place) sites
       (all_from_every (λ (s : Site). s.own.place < (hall_of t).count) sites (λ k d low l. subst (λ i. i < (hall_of t).count) (sym (t.placed k d l)) l))
 
-  hearings_fit : (k : ℕ) (d : Site) → k < length sites → All (Fits (hall_of t)) (hearings_of (get_or sites k d))
+  hearings_fit : (k : ℕ) (d : Site) → k < length sites → AllByRecursion (Fits (hall_of t)) (hearings_of (get_or sites k d))
   hearings_fit k d l =
       let s : Site = get_or sites k d in
       All-map (Fits (hall_of t)) (Hear s.own.place) (places_of s)
@@ -75,12 +75,12 @@ module _ (t : Topology) where
             ∙ has_at (places_of s) m (get_or (places_of s) m e) n (get_or_default (places_of s) m 0 e n),
       )))
 
-  all_fit : All (Fits (hall_of t)) (doings_in sites)
+  all_fit : AllByRecursion (Fits (hall_of t)) (doings_in sites)
   all_fit =
       All-append (Fits (hall_of t)) (map (λ (s : Site). Work s.own.place) sites) (flat_map hearings_of sites) works_fit
-      (all_joined (Fits (hall_of t)) hearings_of sites (all_from_every (λ s. All (Fits (hall_of t)) (hearings_of s)) sites (λ k d low l. hearings_fit k d l)))
+      (all_joined (Fits (hall_of t)) hearings_of sites (all_from_every (λ s. AllByRecursion (Fits (hall_of t)) (hearings_of s)) sites (λ k d low l. hearings_fit k d l)))
 
-  all_there : (d : Doing) → Fits (hall_of t) d → Has (doings_in sites) d
+  all_there : (d : Doing) → Fits (hall_of t) d → ContainsAt (doings_in sites) d
   all_there (Work i) fits =
       let s : Site = first_of sites i fits in
       has_append_left (map (λ (s : Site). Work s.own.place) sites) (flat_map hearings_of sites) (Work i)

@@ -1,6 +1,6 @@
 -- What a lamp works out and tells, from what it remembers of its neighbours, whatever that is.
--- A row is a lamp's neighbours by rising place. `folded f a row` takes `a` through the row by `f`, from the first neighbour on;
--- `sumBy f row` adds up `f` of each; `kept_by test row` has those that pass the test.
+-- A row is a lamp's neighbours by rising place. `fold f a row` takes `a` through the row by `f`, from the first neighbour on;
+-- `sum_by f row` adds up `f` of each; `filter test row` has those that pass the test.
 use Rattle.std.specs.Prelude.{ℕ, ◌+◌, min, Bool, cond, ◌&&◌, ◌||◌, List, [], ◌∷◌, map, fold, sum_by, filter, ◌==◌, nat_lt}
 use Rattle.telling.specs.declared.Telling.{Telling}
 use Rattle.protocol.specs.declared.facts.Own.{Own}

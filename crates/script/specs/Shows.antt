@@ -2,19 +2,19 @@
 use Rattle.std.specs.Prelude.{ℕ, List, [], Some, None, vec_items, Option}
 use Rattle.std.specs.List.{flat_map}
 use Rattle.telling.specs.declared.refusal.Refusal.{Refusal}
-use Rattle.console.specs.Answers.{refusalText}
+use Rattle.console.specs.Answers.{refusal_text}
 use Rattle.topology.specs.declared.hall.Topology.{Topology}
 use Rattle.network.specs.declared.commands.Command.{Command}
 use Rattle.network.specs.declared.commands.Command.TheVariants.{Fill, SetMemory, SetWire, SetNoise, SetLamp, Do, Round, Show, Unknown}
 use Rattle.network.specs.declared.state.State.{State}
 use Rattle.network.specs.Carried.{numbers_at}
 use Rattle.protocol.specs.declared.state.Numbers.{Numbers}
-use Rattle.script.specs.Answers.{lampText}
+use Rattle.script.specs.Answers.{lamp_text}
 
 -- the line of a lamp, where its numbers are there
 abbrev pub line_of_lamp : ℕ → Option Numbers → List ℕ
 line_of_lamp place None = []
-line_of_lamp place (Some numbers) = lampText place numbers
+line_of_lamp place (Some numbers) = lamp_text place numbers
 
 -- the line of a lamp in a state
 abbrev pub lamp_line : Topology → State → ℕ → List ℕ
@@ -38,5 +38,5 @@ shown_for t s Unknown = []
 
 -- all that is printed: the number of a refusal, else what is shown
 abbrev pub answer_text : Topology → State → Command → Option Refusal → List ℕ
-answer_text t s c (Some refusal) = refusalText refusal
+answer_text t s c (Some refusal) = refusal_text refusal
 answer_text t s c None = shown_for t s c

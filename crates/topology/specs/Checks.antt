@@ -1,6 +1,6 @@
 -- What is looked at in the lines of a hall file, one thing after the other.
 use Rattle.std.specs.Prelude.{◌≡◌, ℕ, ◌-◌, ◌<◌, ◌≤◌, true, false, List, length, Some, ◌≢◌, slice_index, slice_index_or}
-use Rattle.std.specs.List.{AllByRecursion as All}
+use Rattle.std.specs.List.{AllByRecursion}
 use Rattle.protocol.specs.declared.facts.Own.{Own}
 use Rattle.protocol.specs.declared.facts.Site.{Site}
 use Rattle.protocol.specs.Rows.{places_of}
@@ -51,7 +51,7 @@ pub record Checked (lines : List Line) (most : ℕ) (names : List ℕ) : Type 0 
   pub headed : Headed lines most
   pub all : names ≡ names_in lines
   pub named : Named most names
-  pub right : All (RightEnds (length names)) lines
+  pub right : AllByRecursion (RightEnds (length names)) lines
 
 -- what the lamp at a place knows of itself
 abbrev pub own_at : ℕ → List ℕ → ℕ → Own

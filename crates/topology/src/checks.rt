@@ -1,6 +1,6 @@
 // What has to be right of the lines of a hall file before sites are made.
 ghost use Rattle.std.specs.Prelude.{◌≡◌, ℕ, true, false, length, MatchOption, MatchResult};
-ghost use Rattle.std.specs.List.{AllByRecursion as All};
+ghost use Rattle.std.specs.List.{AllByRecursion};
 ghost use Rattle.topology.specs.Files.{fits, Fit, most_in};
 ghost use Rattle.topology.specs.Checks.{Misfit, Headed, Apart, Again, Named, RightEnds};
 
@@ -101,7 +101,7 @@ fn wire_fault(count: usize, line: Line) -> Option<Reason>
 }
 
 pub(crate) fn check_wires(count: usize, lines: &[Line]) -> Result<(), Refused>
-    ensures { MatchResult result (λ _. All (RightEnds count) lines.now) (λ _. (All (RightEnds count) lines.now → ⊥)) }
+    ensures { MatchResult result (λ _. AllByRecursion (RightEnds count) lines.now) (λ _. (AllByRecursion (RightEnds count) lines.now → ⊥)) }
 {
     for (i, line) in lines.iter().enumerate() {
         if let Some(reason) = wire_fault(count, *line) {
