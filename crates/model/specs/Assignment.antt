@@ -77,7 +77,7 @@ right_numbers h i =
       parent = parent_of h i;
       size = size_of h i;
       total = h.count;
-      number = number_of h i;
+      number = number_at h (distance_of h i) i;
     }
 
 -- the right telling of lamp i to lamp j: its right numbers, and to a child the child's number, to any other 0

@@ -16,12 +16,13 @@ pub record Net : Type 0 where
   pub line : ℕ → ℕ → Reading
   pub heard : ℕ → ℕ → Telling
 
--- lamp i's neighbours by rising place, each with what is remembered of it; and so in a net
+-- a lamp's neighbours by rising place, each with what the lamp remembers of it
+abbrev pub row_in : Hall → Net → ℕ → List Neighbour
+row_in h n i = map (λ j. record { place = j; telling = n.heard i j }) (h.neighbours i)
+
+-- the same, of any memory of lamp i
 abbrev pub row_from : Hall → ℕ → (ℕ → Telling) → List Neighbour
 row_from h i heard = map (λ j. record { place = j; telling = heard j }) (h.neighbours i)
-
-abbrev pub row_in : Hall → Net → ℕ → List Neighbour
-row_in h n i = row_from h i (n.heard i)
 
 -- a net in which lamp i has worked these numbers out, and all else is as it was
 abbrev pub noted : ℕ → Numbers → Net → Net
