@@ -18,11 +18,15 @@ MADE = ("Answers.antt", "Invariants.antt", "Proof.antt")
 DEFINED = re.compile(r"\s*(?:(?:unfoldable|abbrev|pub|private)\s+)*([A-Za-z_][\w'-]*)\s*:(?:\s|$)")
 TYPED = re.compile(r"\s*(?:pub\s+)?(?:record|data)\s+(?:pub\s+)?([A-Za-z_][\w'-]*)")
 OUTER = ("length-", "getD-", "get_or-")
-# names that would fall together with another one of the same file
+# names of which the rule would make one that is taken
 APART = {
+    # in the same file
     "after-hearing": "heard_after_hearing",
     "is-better": "better_passes",
     "may-wire": "may_wire_apart",
+    # what would read as a variant of an enum, or as a tactic
+    "No-wire": "NoWireTo",
+    "first_of": "first_that",
 }
 
 

@@ -5,7 +5,7 @@ use Rattle.telling.specs.declared.Telling.{Telling}
 use Rattle.protocol.specs.declared.work.Best.{Best}
 use Rattle.protocol.specs.Rows.{Neighbour, has_wire}
 use Rattle.protocol.specs.Rules.{further, is_better, compared, telling_at}
-use Rattle.model.specs.Assignment.{any_of, first_of}
+use Rattle.model.specs.Assignment.{any_of, first_that}
 
 -- what is remembered, by place, as a row
 abbrev pub in_row : (ℕ → Telling) → ℕ → Neighbour
@@ -110,8 +110,8 @@ module _ (most : ℕ) (heard : ℕ → Telling) where
     -- and the first that offers it is taken
     pub best_first :
         (other : ℕ) (ps : List ℕ) (b : Best) → Before x d b.name b.distance → ((j : ℕ) → has_wire ps j ≡ true → Offers j) → any_of is ps ≡ true →
-        through b ps ≡ found (first_of is other ps)
-    unfolding has_wire any_of first_of compared
+        through b ps ≡ found (first_that is other ps)
+    unfolding has_wire any_of first_that compared
     best_first other [] b worse offers some = absurd (both_ways _ refl some)
     best_first other (j ∷ ps) b worse offers some =
         let here = offers j (or_left _ _ (eq-eqb j j refl)) in

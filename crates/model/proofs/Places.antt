@@ -2,7 +2,7 @@
 use Rattle.std.proofs.Common.{◌≡◌, ℕ, zero, suc, ◌<◌, ◌≤◌, Bool, true, false, eqb, List, [], ◌∷◌, sym, refl, ap, ◌∙◌, ⊎_elim, arith}
 use Rattle.std.proofs.lemmas.Bool.{or_cases, or_left, or_right, eqb-true, eq-eqb, cases_Bool, both_ways, cond-true, cond-false}
 use Rattle.protocol.specs.Rows.{has_wire}
-use Rattle.model.specs.Assignment.{any_of, first_of, least_of}
+use Rattle.model.specs.Assignment.{any_of, first_that, least_of}
 
 module _ (test : ℕ → Bool) where
   -- a place of a list that passes the test
@@ -25,23 +25,23 @@ module _ (test : ℕ → Bool) where
       (or_cases (eqb q p) (has_wire ps p) e)
 
   -- the first place that passes, where one does
-  pub first_found : (other : ℕ) (ps : List ℕ) → any_of test ps ≡ true → (has_wire ps (first_of test other ps) ≡ true) × (test (first_of test other ps) ≡ true)
-  unfolding any_of has_wire first_of
+  pub first_found : (other : ℕ) (ps : List ℕ) → any_of test ps ≡ true → (has_wire ps (first_that test other ps) ≡ true) × (test (first_that test other ps) ≡ true)
+  unfolding any_of has_wire first_that
   first_found other [] e = absurd (both_ways _ refl e)
   first_found other (q ∷ ps) e =
       ⊎_elim
       (λ t.
-      let is = cond-true (test q) q (first_of test other ps) t in
+      let is = cond-true (test q) q (first_that test other ps) t in
       (or_left _ _ (eq-eqb q _ (sym is)), ap test is ∙ t))
       (λ f.
-      let is = cond-false (test q) q (first_of test other ps) f in
+      let is = cond-false (test q) q (first_that test other ps) f in
       let rest = first_found other ps (⊎_elim (λ t. absurd (both_ways _ f t)) (λ t. t) (or_cases (test q) (any_of test ps) e)) in
       (or_right _ _ (ap (has_wire ps) is ∙ rest.0), ap test is ∙ rest.1))
       (cases_Bool (test q))
 
   -- where none does, it is the other
-  pub first_none : (other : ℕ) (ps : List ℕ) → ((p : ℕ) → test p ≡ false) → first_of test other ps ≡ other
-  unfolding first_of
+  pub first_none : (other : ℕ) (ps : List ℕ) → ((p : ℕ) → test p ≡ false) → first_that test other ps ≡ other
+  unfolding first_that
   first_none other [] fails = refl
   first_none other (q ∷ ps) fails = cond-false _ _ _ (fails q) ∙ first_none other ps fails
 

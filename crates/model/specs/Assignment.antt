@@ -1,5 +1,5 @@
 -- The right numbers of each lamp, worked out from the hall alone.
-use Rattle.std.specs.Prelude.{ℕ, zero, suc, ◌+◌, Bool, false, cond, ◌||◌, ltb, List, [], ◌∷◌, sum_by, filter, ◌==◌, nat_eq, nat_lt}
+use Rattle.std.specs.Prelude.{ℕ, zero, suc, ◌+◌, Bool, false, cond, ◌||◌, List, [], ◌∷◌, sum_by, filter, ◌==◌, nat_lt}
 use Rattle.telling.specs.declared.Telling.{Telling}
 use Rattle.protocol.specs.declared.state.Numbers.{Numbers}
 use Rattle.protocol.specs.Rules.{telling_with}
@@ -34,17 +34,17 @@ unfoldable pub distance_of : Hall → ℕ → ℕ
 distance_of h i = least_of (λ d. is_near h d i) h.count
 
 -- the first place of a list that passes a test, or else the given one
-unfoldable pub first_of : (ℕ → Bool) → ℕ → List ℕ → ℕ
-first_of test other [] = other
-first_of test other (p ∷ ps) = cond (test p) p (first_of test other ps)
+unfoldable pub first_that : (ℕ → Bool) → ℕ → List ℕ → ℕ
+first_that test other [] = other
+first_that test other (p ∷ ps) = cond (test p) p (first_that test other ps)
 
 -- the parent: of the neighbours that are one wire nearer to the root, the one at the lowest place; the root is its own
 unfoldable pub parent_of : Hall → ℕ → ℕ
-parent_of h i = first_of (λ j. nat_eq (distance_of h j + 1) (distance_of h i)) i (h.neighbours i)
+parent_of h i = first_that (λ j. (distance_of h j + 1) == distance_of h i) i (h.neighbours i)
 
 -- the children: those neighbours whose parent lamp i is, by rising place
 abbrev pub children_of : Hall → ℕ → List ℕ
-children_of h i = filter (λ j. nat_eq (parent_of h j) i) (h.neighbours i)
+children_of h i = filter (λ j. parent_of h j == i) (h.neighbours i)
 
 -- how many lamps the subtree of lamp i has, as far as so many levels below it
 unfoldable pub size_within : Hall → ℕ → ℕ → ℕ
@@ -57,7 +57,7 @@ size_of h i = size_within h h.count i
 
 -- the sizes of the children of lamp i before place j
 abbrev pub sizes_before : Hall → ℕ → ℕ → ℕ
-sizes_before h i j = sum_by (size_of h) (filter (λ k. ltb k j) (children_of h i))
+sizes_before h i j = sum_by (size_of h) (filter (λ k. nat_lt k j) (children_of h i))
 
 -- the place of lamp i in the walk of the tree from the root, children by rising place, where i is so many levels below the root:
 -- behind its parent and the subtrees of its siblings before it
@@ -65,6 +65,7 @@ unfoldable pub number_at : Hall → ℕ → ℕ → ℕ
 number_at h zero i = 0
 number_at h (suc level) i = number_at h level (parent_of h i) + 1 + sizes_before h (parent_of h i) i
 
+-- the number of lamp i
 abbrev pub number_of : Hall → ℕ → ℕ
 number_of h i = number_at h (distance_of h i) i
 

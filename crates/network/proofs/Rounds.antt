@@ -18,7 +18,7 @@ use Rattle.network.specs.Sequence.{next_of, draw_at}
 use Rattle.network.specs.Order.{hearings_of, doings_in, shuffled_from, order_of}
 use Rattle.network.specs.Laws.{RoundsAreRounds}
 use Rattle.network.proofs.Sites.{neighbours_at}
-use Rattle.network.proofs.Tables.{has_at, first_of}
+use Rattle.network.proofs.Tables.{has_at, head_of}
 
 -- exchanges only reorder
 exchanged_once : (ds : List Doing) (i j : ℕ) → i < length ds → j < length ds → IsPermutation ds (swap ds i j)
@@ -82,11 +82,11 @@ module _ (t : Topology) where
 
   all_there : (d : Doing) → Fits (hall_of t) d → ContainsAt (doings_in sites) d
   all_there (Work i) fits =
-      let s : Site = first_of sites i fits in
+      let s : Site = head_of sites i fits in
       has_append_left (map (λ (s : Site). Work s.own.place) sites) (flat_map hearings_of sites) (Work i)
       (has_map (λ (s : Site). Work s.own.place) sites i s (Work i) fits (ap Work (t.placed i s fits)))
   all_there (Hear j i) fits =
-      let d : Site = first_of sites j fits.0 in
+      let d : Site = head_of sites j fits.0 in
       let s : Site = get_or sites j d in
       let wire = wire_index (places_of s) i (ap (λ ps. has_wire ps i) (sym (neighbours_at t.most sites j d fits.0)) ∙ fits.1) in
       has_append_right (map (λ (s : Site). Work s.own.place) sites) (flat_map hearings_of sites) (Hear j i)

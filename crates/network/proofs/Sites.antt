@@ -2,7 +2,7 @@
 use Rattle.std.proofs.Common.{◌≡◌, ℕ, ◌+◌, ◌*◌, ◌<◌, ◌≤◌, false, List, [], map, length, get_or, vec_items, sym, refl, ap, ◌∙◌, subst, arith}
 use Rattle.std.proofs.lemmas.List.{get_or-map, get_or_past, get_or-take, length-map}
 use Rattle.protocol.specs.declared.facts.Site.{Site}
-use Rattle.protocol.specs.Rows.{places_of, has_wire, Wire, NoWire}
+use Rattle.protocol.specs.Rows.{places_of, has_wire, Wire, NoWireTo}
 use Rattle.protocol.proofs.Rows.{length-places_of}
 use Rattle.protocol.proofs.Wires.{wire_missing}
 use Rattle.model.specs.Halls.{own_of, is_wired}
@@ -41,7 +41,7 @@ module _ (t : Topology) (lent : List Site) (same : lent ≡ vec_items t.sites) (
           is = refl;
         }
 
-    pub no_slot_at : NoWire s i → is_wired (hall_of t) j i ≡ false
+    pub no_slot_at : NoWireTo s i → is_wired (hall_of t) j i ≡ false
     no_slot_at w = ap (λ ps. has_wire ps i) places_at ∙ wire_missing s i w
 
     -- a site is that of its lamp

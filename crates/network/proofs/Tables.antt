@@ -44,14 +44,14 @@ module _ (own : Own) where
 rises_of : (s : Site) → rises_from s.own 0 (places_of s) ≡ true
 rises_of s = (and_parts _ _ s.sound).1
 
-pub first_of : {X : Type 0} (xs : List X) (k : ℕ) → k < length xs → X
-first_of [] k l = absurd (omega arith)
-first_of (x ∷ xs) k l = x
+pub head_of : {X : Type 0} (xs : List X) (k : ℕ) → k < length xs → X
+head_of [] k l = absurd (omega arith)
+head_of (x ∷ xs) k l = x
 
 -- a lamp of a topology has at most sixteen wires, to different places
 module _ (t : Topology) (j : ℕ) (l : j < (hall_of t).count) where
   site : Site
-  site = first_of (vec_items t.sites) j l
+  site = head_of (vec_items t.sites) j l
 
   here : (hall_of t).neighbours j ≡ places_of (get_or (vec_items t.sites) j site)
   here = neighbours_at t.most (vec_items t.sites) j site l

@@ -4,7 +4,7 @@ use Rattle.std.proofs.lemmas.List.{get_or-take}
 use Rattle.std.proofs.lemmas.Bool.{eq-eqb, ne_eqb, cond-true, cond-false, or_left, or_right, or_from}
 use Rattle.telling.specs.declared.Telling.{Telling}
 use Rattle.protocol.specs.declared.facts.Site.{Site}
-use Rattle.protocol.specs.Rows.{row_of, places_of, has_wire, Wire, NoWire}
+use Rattle.protocol.specs.Rows.{row_of, places_of, has_wire, Wire, NoWireTo}
 use Rattle.protocol.specs.Rules.{nothing, telling_at}
 use Rattle.protocol.specs.Hearing.{replaced}
 use Rattle.protocol.proofs.Rows.{length-places_of}
@@ -65,7 +65,7 @@ no_replaced (q ∷ ps) (t ∷ ts) p u f =
     cond-false _ _ _ (ne_eqb q p (f 0 (omega arith))) ∙ ap (λ row. record { place = q; telling = t } ∷ row) (no_replaced ps ts p u (λ k h. f (suc k) (omega arith)))
 
 -- the same of a site's wires: where none leads to the place
-module _ (s : Site) (p : ℕ) (n : NoWire s p) where
+module _ (s : Site) (p : ℕ) (n : NoWireTo s p) where
   nowhere : Nowhere (places_of s) p
   nowhere k h e =
       let inside : k < s.wires = omega (arith, length-take s.wires s.places) in

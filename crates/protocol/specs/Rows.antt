@@ -31,8 +31,8 @@ pub record Wire (s : Site) (place k : ℕ) : Type 0 where
   pub first : (j : ℕ) → j < k → slice_index s.places j ≢ place
 
 -- none of a lamp's wires leads to a place
-abbrev pub NoWire : Site → ℕ → Type 0
-NoWire s place = (k : ℕ) → k < s.wires → slice_index s.places k ≢ place
+abbrev pub NoWireTo : Site → ℕ → Type 0
+NoWireTo s place = (k : ℕ) → k < s.wires → slice_index s.places k ≢ place
 
 -- a lamp's neighbours by rising place, each with the telling last heard of it
 abbrev pub remembered : Lamp → List Neighbour

@@ -2,7 +2,7 @@
 ghost use Rattle.std.specs.Prelude.{◌≡◌, ◌≤◌, false, length, take, MatchOption, MatchResult};
 ghost use Rattle.telling.specs.declared.refusal.Refusal.TheVariants.{Input};
 ghost use Rattle.protocol.specs.Wiring.{is_sound, may_wire, rises_from};
-ghost use Rattle.protocol.specs.Rows.{places_of, Wire, NoWire};
+ghost use Rattle.protocol.specs.Rows.{places_of, Wire, NoWireTo};
 
 use super::facts::{Own, Site, WIRES};
 use telling::refusal::Refusal;
@@ -70,7 +70,7 @@ impl Site {
 
     // The wire to a place.
     pub fn wire_to(&self, place: u32) -> Option<usize>
-        ensures { MatchOption result (NoWire self.now place) (λ k. Wire self.now place k) }
+        ensures { MatchOption result (NoWireTo self.now place) (λ k. Wire self.now place k) }
     {
         for k in 0..self.wires {
             if self.places[k] == place {

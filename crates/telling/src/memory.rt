@@ -1,5 +1,5 @@
 // A memory: tellings one after the other, 28 bytes each, in bytes that somebody lends.
-ghost use Rattle.std.specs.Prelude.{◌≡◌, ◌/◌, ltb, length, if◌then◌else◌, Some, None, nat_lt};
+ghost use Rattle.std.specs.Prelude.{◌≡◌, ◌/◌, length, if◌then◌else◌, Some, None, nat_lt};
 ghost use Rattle.telling.specs.Layout.{bytes_of, telling_of, part_of, stored};
 ghost use Rattle.telling.specs.Laws.{PartsApart};
 
@@ -8,7 +8,7 @@ use super::{PART, Telling};
 impl Telling {
     // The telling in the k-th part of a memory; none where the memory has no such part.
     pub fn load(memory: &[u8], k: usize) -> Option<Telling>
-        ensures { result ≡ (if ltb k (length memory.now / 28) then Some (telling_of (part_of memory.now k)) else None) }
+        ensures { result ≡ (if nat_lt k (length memory.now / 28) then Some (telling_of (part_of memory.now k)) else None) }
     {
         if k >= memory.len() / PART {
             return None;

@@ -17,7 +17,7 @@ use Rattle.topology.specs.Checks.{Headed, Apart, Named, RightEnds, Checked, AllS
 use Rattle.topology.specs.Reach.{WhetherJoined}
 use Rattle.topology.specs.Reading.{hall_of, AcceptedIsSound}
 use Rattle.topology.proofs.Ways.{way_within}
-use Rattle.topology.proofs.Spreads.{first_of}
+use Rattle.topology.proofs.Spreads.{head_of}
 use Rattle.topology.proofs.Ends.{ends_turned, ends_below, ends_right, right_below, rises_apart}
 
 module _ {lines : List Line} {h : Hall} (d : Describes lines h) where
@@ -126,7 +126,7 @@ module _ {lines : List Line} {most : ℕ} {names : List ℕ} {sites : List Site}
 
   pub stands_described : Describes lines (hall_in most sites)
   stands_described =
-      let d = first_of sites stands_some in
+      let d = head_of sites stands_some in
       record {
         most = checked.headed.first;
         fit = checked.headed.fit;
@@ -157,7 +157,7 @@ sound_of t =
       few = omega (arith, t.few, long);
       names = t.names;
       sites = λ a l.
-          let d = first_of sites (omega arith) in
+          let d = head_of sites (omega arith) in
           let s = get_or sites a d in
           ap (λ ps. is_sound (own_of (hall_of t) a) ps) (get_or-map places_of sites a d [] l)
           ∙ ap (λ own. is_sound own (places_of s)) (same_own s.own t.most a _ (t.bounded a d l) (t.placed a d l) (get_or-map (λ s. s.own.name) sites a d 0 l))

@@ -59,9 +59,9 @@ not_next : (on near : Bool) → (not on && near) ≡ false → near ≡ true →
 not_next true near e t = refl
 not_next false near e t = absurd (both_ways near e t)
 
-pub first_of : (sites : List Site) → 1 ≤ length sites → Site
-first_of [] some = absurd (omega arith)
-first_of (s ∷ sites) some = s
+pub head_of : (sites : List Site) → 1 ≤ length sites → Site
+head_of [] some = absurd (omega arith)
+head_of (s ∷ sites) some = s
 
 -- the hall of sites, whatever the most that it may have
 module _ (sites : List Site) where
@@ -171,7 +171,7 @@ module _ (sites : List Site) where
       way_reached closed first (suc n) (step {b} {c} w e) =
           let from : b < length sites = way_within (hall_in most sites) within some n w in
           let to = within b c (from, e) in
-          let d = first_of sites some in
+          let d = head_of sites some in
           let back = sym (wire_of most c b d to) ∙ both b c (from, e) in
           not_next _ _ (closed c d to) (any_from (is_reached reached) (places_of (get_or sites c d)) b back (way_reached closed first n w))
 
