@@ -1,9 +1,14 @@
 -- Lines, by their words.
-use Rattle.std.proofs.Common.{◌≡◌, ℕ, List, ◌∷◌, Some, Option, refl, ap, ◌∙◌, Bor}
+use Rattle.std.proofs.Common.{◌≡◌, ℕ, Bool, List, ◌∷◌, Some, Decides, Option, refl, ap, ◌∙◌, Bor, rules}
 use Rattle.std.specs.Option.{option_map}
+use Rattle.std.specs.Str.{bytes_eq}
+use Rattle.std.proofs.lemmas.Slice.Eq.{bytes_eq-Decides}
 use Rattle.text.specs.Words.{words_of, words_behind}
 use Rattle.text.proofs.Cuts.{words_cut}
 use Rattle.console.specs.Lines.{meant_by, unknown}
+
+pub same_decided : (xs ys : List ℕ) (r : Bool) → Decides r (xs ≡ ys) → r ≡ bytes_eq xs ys
+same_decided xs ys r h = search (rules, bytes_eq-Decides)
 
 -- a cut's words, where something stands behind the first
 pub behind_word :
