@@ -1,5 +1,6 @@
 -- What reading a slice of bytes comes to.
-use Rattle.std.specs.Prelude.{ℕ, Bool, cond, ◌&&◌, List, length, take, drop, Some, None, Option, ◌==◌, slice_index}
+use Rattle.std.specs.Prelude.{ℕ, Bool, cond, ◌&&◌, List, length, take, drop, Ok, Err, Result, ◌==◌, slice_index}
+use Rattle.telling.specs.declared.Telling.{Telling}
 use Rattle.telling.specs.declared.frame.Reading.{Reading}
 use Rattle.telling.specs.declared.frame.Reading.TheVariants.{Told, Noise}
 use Rattle.telling.specs.declared.refusal.Refusal.{Refusal}
@@ -14,7 +15,7 @@ is_frame bytes = length bytes == 30 && slice_index bytes 0 == 76 && slice_index 
 abbrev pub reading_of : List ℕ → Reading
 reading_of bytes = cond (is_frame bytes) (Told (telling_of (take 28 (drop 1 bytes)))) Noise
 
--- the refusal of each case: none for a telling, 1 for what is unreadable
-abbrev pub refusal_of : Reading → Option Refusal
-refusal_of (Told t) = None
-refusal_of Noise = Some Unreadable
+-- each case: a telling is what was told, noise is refused by 1, as what cannot be read
+abbrev pub told_of : Reading → Result Telling Refusal
+told_of (Told t) = Ok t
+told_of Noise = Err Unreadable

@@ -2,7 +2,7 @@
 ghost use Rattle.std.specs.Prelude.{◌≡◌};
 ghost use Rattle.telling.specs.Layout.{check_of, frame_of};
 ghost use Rattle.telling.specs.Laws.{OneFrameEach};
-ghost use Rattle.telling.specs.Readings.{reading_of, refusal_of};
+ghost use Rattle.telling.specs.Readings.{told_of};
 
 use super::Telling;
 use super::refusal::Refusal;
@@ -33,11 +33,14 @@ fn check_of(bytes: &[u8]) -> u8
     sum
 }
 
-impl Reading {
-    // What the bytes on a wire are read to, whatever they are.
-    pub fn of(frame: &[u8]) -> Reading
-        ensures { result ≡ reading_of frame.now }
-    {
+// What the bytes on a wire are read to, whatever they are.
+impl From<&[u8]> for Reading {
+    ghost use Rattle.std.specs.Prelude.{◌≡◌};
+    ghost use Rattle.telling.specs.Readings.{reading_of};
+
+    ghost from_gives = { λ frame reading. reading ≡ reading_of frame.now };
+
+    fn from(frame: &[u8]) -> Reading {
         let [FIRST, .., check] = frame else {
             return Reading::Noise;
         };
@@ -46,14 +49,16 @@ impl Reading {
         }
         Reading::Told(Telling::from_part(&frame[1..CHECK]))
     }
+}
 
-    // What it is refused as; a telling is not.
-    pub fn refusal(self) -> Option<Refusal>
-        ensures { result ≡ refusal_of self }
+impl Reading {
+    // The telling that was read, or how noise is refused.
+    pub fn told(self) -> Result<Telling, Refusal>
+        ensures { result ≡ told_of self }
     {
         match self {
-            Reading::Told(_) => None,
-            Reading::Noise => Some(Refusal::Unreadable),
+            Reading::Told(telling) => Ok(telling),
+            Reading::Noise => Err(Refusal::Unreadable),
         }
     }
 }

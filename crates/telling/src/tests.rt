@@ -20,19 +20,22 @@ const WRITTEN: [u8; FRAME] = [
 #[test]
 fn a_frame_by_hand(rt: HostRuntime) {
     assert_eq!(rt; SAID.to_frame(), WRITTEN);
-    assert_eq!(rt; Reading::of(&WRITTEN), Reading::Told(SAID));
-    assert_eq!(rt; Reading::of(&WRITTEN).refusal(), None);
+    assert_eq!(rt; Reading::from(WRITTEN.as_slice()), Reading::Told(SAID));
+    assert_eq!(rt; Reading::from(WRITTEN.as_slice()).told(), Ok(SAID));
 }
 
 #[test]
 fn cut_or_lengthened(rt: HostRuntime) {
     let mut long = [0u8; 31];
     long[0..30].copy_from_slice(&WRITTEN);
-    assert_eq!(rt; Reading::of(&long), Reading::Noise);
+    assert_eq!(rt; Reading::from(long.as_slice()), Reading::Noise);
     for n in 0..FRAME {
-        assert_eq!(rt; Reading::of(&WRITTEN[0..n]), Reading::Noise);
+        assert_eq!(rt; Reading::from(&WRITTEN[0..n]), Reading::Noise);
     }
-    assert_eq!(rt; Reading::of(&[]).refusal(), Some(Refusal::Unreadable));
+    assert_eq!(rt;
+        Reading::from([].as_slice()).told(),
+        Err(Refusal::Unreadable)
+    );
 }
 
 #[test]
@@ -40,7 +43,7 @@ fn each_byte_changed(rt: HostRuntime) {
     for i in 0..FRAME {
         let mut frame = WRITTEN;
         frame[i] = frame[i].wrapping_add(1);
-        assert_eq!(rt; Reading::of(&frame), Reading::Noise);
+        assert_eq!(rt; Reading::from(frame.as_slice()), Reading::Noise);
     }
 }
 
@@ -58,8 +61,8 @@ fn parts_of_a_memory(rt: HostRuntime) {
 
 #[test]
 fn numbers_of_refusals(rt: HostRuntime) {
-    assert_eq!(rt; Refusal::Unreadable.number(), 1);
-    assert_eq!(rt; Refusal::NoWire.number(), 2);
-    assert_eq!(rt; Refusal::Memory.number(), 3);
-    assert_eq!(rt; Refusal::Input.number(), 4);
+    assert_eq!(rt; u8::from(Refusal::Unreadable), 1);
+    assert_eq!(rt; u8::from(Refusal::NoWire), 2);
+    assert_eq!(rt; u8::from(Refusal::Memory), 3);
+    assert_eq!(rt; u8::from(Refusal::Input), 4);
 }
