@@ -1,5 +1,5 @@
 -- A row by its places and tellings, and a lamp's row by its wires.
-use Rattle.std.proofs.Common.{◌≡◌, ℕ, zero, suc, ◌+◌, ◌<◌, ◌≤◌, List, [], ◌∷◌, length, get_or, take, fold, sym, refl, ap, ◌∙◌, arith, length-take}
+use Rattle.std.proofs.Common.{◌≡◌, ℕ, zero, suc, ◌+◌, ◌<◌, ◌≤◌, List, [], ◌∷◌, length, get_or, take, fold, sym, refl, ap, ◌∙◌, ◌⊎◌, ⊎_elim, arith, length-take}
 use Rattle.std.proofs.lemmas.List.{take_all, get_or-take}
 use Rattle.std.proofs.lemmas.List.Sums.{fold_more as folded_more}
 use Rattle.telling.specs.declared.Telling.{Telling}
@@ -30,6 +30,20 @@ get_or-row (p ∷ ps) [] k d t h l = absurd (omega arith)
 get_or-row (p ∷ ps) (t' ∷ ts) zero d t h l = refl
 get_or-row (p ∷ ps) (t' ∷ ts) (suc k) d t h l = get_or-row ps ts k d t (omega arith) (omega arith)
 
+-- a row with a neighbour at its head is gone through from there
+pub fold-row :
+    {Y : Type 0} (f : Y → Neighbour → Y) (y : Y) {ps qs : List ℕ} {ts us : List Telling} (p : ℕ) (t : Telling) → ps ≡ p ∷ qs → ts ≡ t ∷ us →
+    fold f y (row_of ps ts) ≡ fold f (f y (record { place = p; telling = t })) (row_of qs us)
+unfolding row_of
+fold-row f y p t e g = rw (e, g) refl
+
+-- with no places left, or no tellings, no neighbours are left
+pub row_ended : (ps : List ℕ) (ts : List Telling) → (length ps ≡ 0) ⊎ (length ts ≡ 0) → row_of ps ts ≡ []
+unfolding row_of
+row_ended [] ts e = refl
+row_ended (p ∷ ps) [] e = refl
+row_ended (p ∷ ps) (t ∷ ts) e = absurd (⊎_elim (λ h. omega (arith, h)) (λ h. omega (arith, h)) e)
+
 -- a loop over the wires that has passed the last one has gone through the whole row
 pub whole_row : (l : Lamp) (k : ℕ) → l.site.wires ≤ k → take k (remembered l) ≡ remembered l
 whole_row l k h =
@@ -45,6 +59,13 @@ module _ (l : Lamp) (heard : length l.heard ≡ 16) where
 
   pub length-remembered : length (remembered l) ≡ l.site.wires
   length-remembered = length-row (places_of l.site) l.heard (omega (arith, long, l.site.few)) ∙ long
+
+  -- the tellings by wire, one for each
+  pub length-tellings : {ts : List Telling} → ts ≡ take l.site.wires l.heard → length ts ≡ l.site.wires
+  length-tellings e = rw e (simp length-take (omega (arith, l.site.few)))
+
+  pub telling_kth : {ts : List Telling} (k : ℕ) → ts ≡ take l.site.wires l.heard → k < l.site.wires → get_or ts k nothing ≡ get_or l.heard k nothing
+  telling_kth k e h = rw e (get_or-take l.site.wires l.heard k nothing h)
 
   -- the k-th neighbour
   pub remembered_at :

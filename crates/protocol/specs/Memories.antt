@@ -1,5 +1,5 @@
 -- What a memory says of a lamp's neighbours: the k-th part is of the k-th wire.
-use Rattle.std.specs.Prelude.{◌≡◌, ℕ, ◌*◌, ◌<◌, Bool, true, cond, List, length, Some, None, Ok, Err, Option, Result, ◌==◌, slice_index_or}
+use Rattle.std.specs.Prelude.{◌≡◌, ℕ, ◌*◌, ◌<◌, Bool, true, cond, List, length, Ok, Err, Result, ◌==◌, slice_index_or}
 use Rattle.telling.specs.declared.Telling.{Telling}
 use Rattle.telling.specs.declared.refusal.Refusal.{Refusal}
 use Rattle.telling.specs.declared.refusal.Refusal.TheVariants.{Memory}
@@ -12,11 +12,8 @@ abbrev pub is_memory : ℕ → List ℕ → Bool
 is_memory wires memory = length memory == 28 * wires
 
 -- a memory of another size is refused by 3, in recalling and in storing
-abbrev pub recalling_of : ℕ → List ℕ → Option Refusal
-recalling_of wires memory = cond (is_memory wires memory) None (Some Memory)
-
-abbrev pub storing_of : ℕ → List ℕ → Result (Unit {0}) Refusal
-storing_of wires memory = cond (is_memory wires memory) (Ok tt) (Err Memory)
+abbrev pub taken_of : ℕ → List ℕ → Result (Unit {0}) Refusal
+taken_of wires memory = cond (is_memory wires memory) (Ok tt) (Err Memory)
 
 -- the telling in a part of a memory, zeros if the memory is of another size
 abbrev pub recollection : ℕ → List ℕ → ℕ → Telling

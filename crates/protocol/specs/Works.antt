@@ -1,5 +1,5 @@
 -- What a lamp that has worked holds.
-use Rattle.std.specs.Prelude.{◌≡◌, ℕ, ◌<◌, Bool, true, false, List, map, Some, None, Ok, Err, Option, Result, slice_index, slice_index_or}
+use Rattle.std.specs.Prelude.{◌≡◌, ℕ, ◌<◌, Bool, true, false, List, ◌++◌, map, codes, decimal, Some, None, Ok, Err, Option, Result, slice_index, slice_index_or}
 use Rattle.std.specs.Option.{option_map}
 use Rattle.telling.specs.declared.refusal.Refusal.{Refusal}
 use Rattle.telling.specs.declared.refusal.Refusal.TheVariants.{NoWire}
@@ -18,6 +18,12 @@ Gives l b number given k =
 -- the six numbers worked out last
 abbrev pub shown : Lamp → Option Numbers
 shown l = option_map (λ w. w.numbers) l.last
+
+-- six numbers in their order, a space between two, as they are printed
+abbrev pub numbers_line : Numbers → List ℕ
+numbers_line n =
+    decimal n.best ++ (codes " " ++ (decimal n.distance ++ (codes " " ++ (decimal n.parent ++ (codes " " ++ (decimal n.size ++
+    (codes " " ++ (decimal n.total ++ (codes " " ++ decimal n.number)))))))))
 
 -- what lies on a lamp's wires since it last worked: to each neighbour, by rising place, its telling
 abbrev pub on_wires : Lamp → Option (List Neighbour)

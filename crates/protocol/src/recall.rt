@@ -1,7 +1,7 @@
 // A lamp's memory in bytes that somebody lends, as they are kept while the lamp is off.
 ghost use Rattle.std.specs.Prelude.{◌≡◌, ◌*◌, ◌≤◌, length, IfOk, MatchResult};
 ghost use Rattle.telling.specs.Layout.{telling_of, part_of};
-ghost use Rattle.protocol.specs.Memories.{recalling_of, storing_of, recollection, Recalls, Holds, RecalledAsStored};
+ghost use Rattle.protocol.specs.Memories.{taken_of, recollection, Recalls, Holds, RecalledAsStored};
 
 use super::facts::WIRES;
 use super::state::Lamp;
@@ -15,6 +15,7 @@ fn tellings(memory: &[u8], wires: usize) -> [Telling; WIRES]
     ensures { Recalls (λ k. telling_of (part_of memory.now k)) result wires }
 {
     let mut heard = [NOTHING; WIRES];
+    // by index: of what array::from_fn makes, a proof knows no call by the memory that it read
     for k in 0..wires {
         heard[k] = Telling::load(memory, k).unwrap_or(NOTHING);
     }
@@ -23,32 +24,32 @@ fn tellings(memory: &[u8], wires: usize) -> [Telling; WIRES]
 
 impl Lamp {
     // Takes what a memory holds for what was heard last. A memory of another size is refused, and zeros are taken.
-    pub fn recall(mut self, memory: &[u8]) -> (Lamp, Option<Refusal>)
+    pub fn recall(mut self, memory: &[u8]) -> (Lamp, Result<(), Refusal>)
         ensures site { result.0.site ≡ self.site }
         ensures last { result.0.last ≡ self.last }
-        ensures refusal { result.1 ≡ recalling_of self.site.wires memory.now }
+        ensures refusal { result.1 ≡ taken_of self.site.wires memory.now }
         ensures heard { Recalls (recollection self.site.wires memory.now) result.0.heard self.site.wires }
     {
         let wires = self.site.wires;
         if memory.len() != PART * wires {
             self.heard = [NOTHING; WIRES];
-            return (self, Some(Refusal::Memory));
+            return (self, Err(Refusal::Memory));
         }
         self.heard = tellings(memory, wires);
-        (self, None)
+        (self, Ok(()))
     }
 
     // Writes what is remembered into a memory. One of another size is refused, and nothing is written.
     pub fn store(&self, memory: &mut [u8]) -> Result<(), Refusal>
-        ensures refusal { result ≡ storing_of self.now.site.wires memory.old }
+        ensures refusal { result ≡ taken_of self.now.site.wires memory.old }
         ensures after { MatchResult result (λ _. Holds memory.new self.now.heard self.now.site.wires) (λ _. memory.new ≡ memory.old) }
     {
         let wires = self.site.wires;
         if memory.len() != PART * wires {
             return Err(Refusal::Memory);
         }
-        for k in 0..wires {
-            let _ = self.heard[k].store(memory, k);
+        for (k, said) in self.tellings().iter().enumerate() {
+            let _ = said.store(memory, k);
         }
         Ok(())
     }

@@ -72,11 +72,6 @@ impl Site {
     pub fn wire_to(&self, place: u32) -> Option<usize>
         ensures { MatchOption result (NoWireTo self.now place) (λ k. Wire self.now place k) }
     {
-        for k in 0..self.wires {
-            if self.places[k] == place {
-                return Some(k);
-            }
-        }
-        None
+        self.places().iter().position(|p| *p == place)
     }
 }

@@ -2,6 +2,7 @@
 ghost use Rattle.std.specs.Prelude.{◌≡◌, length};
 
 use super::facts::{Site, WIRES};
+use std::fmt;
 use telling::Telling;
 
 // The six numbers that a lamp works out.
@@ -19,6 +20,25 @@ pub struct Numbers {
     pub total: u32,
     // its own number
     pub number: u32,
+}
+
+impl fmt::Display for Numbers {
+    ghost use Rattle.std.specs.Prelude.{Some};
+    ghost use Rattle.protocol.specs.Works.{numbers_line};
+
+    ghost output = { λ numbers. Some (numbers_line numbers) };
+
+    fn fmt<W: fmt::Write>(&self, f: &mut fmt::Formatter<W>) -> fmt::Result {
+        let Numbers {
+            best,
+            distance,
+            parent,
+            size,
+            total,
+            number,
+        } = *self;
+        write!(f, "{best} {distance} {parent} {size} {total} {number}")
+    }
 }
 
 // What one work comes to. Tellings to neighbours differ in the number given alone, so only that is kept by wire.

@@ -1,5 +1,5 @@
 // Hearing and telling, in frames.
-ghost use Rattle.std.specs.Prelude.{◌≡◌, replicate, None, slice_index};
+ghost use Rattle.std.specs.Prelude.{◌≡◌, replicate, take, None, slice_index};
 ghost use Rattle.telling.specs.Readings.{reading_of};
 ghost use Rattle.protocol.specs.Rows.{places_of};
 ghost use Rattle.protocol.specs.Rules.{nothing, telling_with};
@@ -32,7 +32,7 @@ impl Work {
             size,
             total,
             number,
-            given: if k < WIRES { self.given[k] } else { 0 },
+            given: self.given.get(k).copied().unwrap_or(0),
         }
     }
 }
@@ -42,11 +42,7 @@ impl Lamp {
     pub fn new(site: Site) -> Lamp
         ensures { result ≡ record { site = site; heard = replicate 16 nothing; last = None } }
     {
-        Lamp {
-            site,
-            heard: [NOTHING; WIRES],
-            last: None,
-        }
+        Lamp::remembering(site, [NOTHING; WIRES])
     }
 
     // A lamp that has heard this, by wire, and has not worked yet.
@@ -67,6 +63,13 @@ impl Lamp {
         self.site.places()
     }
 
+    // What was heard last, by wire.
+    pub(crate) fn tellings(&self) -> &[Telling]
+        ensures { result.now ≡ take self.now.site.wires self.now.heard }
+    {
+        &self.heard[0..self.site.wires]
+    }
+
     // What the last work came to, none before the first.
     pub fn worked(&self) -> Option<Work>
         ensures { result ≡ self.now.last }
@@ -78,34 +81,32 @@ impl Lamp {
     pub fn shown(&self) -> Option<Numbers>
         ensures { result ≡ shown self.now }
     {
-        match self.last {
-            Some(work) => Some(work.numbers),
-            None => None,
-        }
+        self.last.map(|work| work.numbers)
+    }
+
+    // Remembers what was read on the wire from a neighbour, or refuses and changes nothing.
+    fn take(&mut self, from: u32, reading: Reading) -> Result<(), Refusal>
+        ensures { Heard reading from self.old self.new result }
+    {
+        let said = reading.told()?;
+        let k = self.site.wire_to(from).ok_or(Refusal::NoWire)?;
+        self.heard[k] = said;
+        Ok(())
     }
 
     // Remembers what a frame from a neighbour says, or refuses and changes nothing.
-    pub fn hear(mut self, from: u32, frame: &[u8]) -> (Lamp, Option<Refusal>)
+    pub fn hear(mut self, from: u32, frame: &[u8]) -> (Lamp, Result<(), Refusal>)
         ensures { Heard (reading_of frame.now) from self result.0 result.1 }
     {
-        let reading = Reading::of(frame);
-        let Reading::Told(said) = reading else {
-            return (self, reading.refusal());
-        };
-        let Some(k) = self.site.wire_to(from) else {
-            return (self, Some(Refusal::NoWire));
-        };
-        self.heard[k] = said;
-        (self, None)
+        let heard = self.take(from, Reading::from(frame));
+        (self, heard)
     }
 
     // The frame that lies on the wire to a neighbour, none before the first work.
     pub fn tell(&self, to: u32) -> Result<Option<[u8; FRAME]>, Refusal>
         ensures { result ≡ tell_of self.now to }
     {
-        let Some(k) = self.site.wire_to(to) else {
-            return Err(Refusal::NoWire);
-        };
+        let k = self.site.wire_to(to).ok_or(Refusal::NoWire)?;
         let Some(work) = self.last else {
             return Ok(None);
         };

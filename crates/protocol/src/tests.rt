@@ -42,8 +42,8 @@ fn two_large_children(rt: HostRuntime) -> Result<(), Fail> {
     let child = said(3, 1, 5, 4294967295).to_frame();
     let (lamp, first) = lamp(1024, 5, 3, &[2, 8])?.hear(2, &child);
     let (lamp, second) = lamp.hear(8, &child);
-    assert_eq!(rt; first, None);
-    assert_eq!(rt; second, None);
+    assert_eq!(rt; first, Ok(()));
+    assert_eq!(rt; second, Ok(()));
     let lamp = lamp.work();
     let numbers = Numbers {
         best: 3,
@@ -64,10 +64,10 @@ fn two_large_children(rt: HostRuntime) -> Result<(), Fail> {
         given: 1,
     };
     let frame = lamp.tell(2)?.ok_or("not worked")?;
-    assert_eq!(rt; Reading::of(&frame), Reading::Told(told));
+    assert_eq!(rt; Reading::from(frame.as_slice()), Reading::Told(told));
     let frame = lamp.tell(8)?.ok_or("not worked")?;
     assert_eq!(rt;
-        Reading::of(&frame),
+        Reading::from(frame.as_slice()),
         Reading::Told(Telling {
             given: 1024,
             ..told
@@ -80,7 +80,7 @@ fn two_large_children(rt: HostRuntime) -> Result<(), Fail> {
 #[test]
 fn far_away(rt: HostRuntime) -> Result<(), Fail> {
     let (lamp, heard) = lamp(1024, 0, 7, &[1])?.hear(1, &said(2, 4294967295, 1, 1).to_frame());
-    assert_eq!(rt; heard, None);
+    assert_eq!(rt; heard, Ok(()));
     let numbers = Numbers {
         best: 7,
         distance: 0,
@@ -98,9 +98,9 @@ fn refused_and_unchanged(rt: HostRuntime) -> Result<(), Fail> {
     let frame = said(2, 0, 1, 1).to_frame();
     let lamp = lamp(4, 0, 7, &[1])?;
     let (lamp, no_wire) = lamp.hear(2, &frame);
-    assert_eq!(rt; no_wire, Some(Refusal::NoWire));
+    assert_eq!(rt; no_wire, Err(Refusal::NoWire));
     let (lamp, noise) = lamp.hear(2, &frame[0..29]);
-    assert_eq!(rt; noise, Some(Refusal::Unreadable));
+    assert_eq!(rt; noise, Err(Refusal::Unreadable));
     assert_eq!(rt; lamp.tell(1), Ok(None));
     assert_eq!(rt; lamp.tell(2), Err(Refusal::NoWire));
     let mut memory = [1u8; PART];
@@ -112,14 +112,14 @@ fn refused_and_unchanged(rt: HostRuntime) -> Result<(), Fail> {
 #[test]
 fn over_night(rt: HostRuntime) -> Result<(), Fail> {
     let (tired, heard) = lamp(4, 0, 7, &[1, 3])?.hear(3, &said(2, 1, 1, 1).to_frame());
-    assert_eq!(rt; heard, None);
+    assert_eq!(rt; heard, Ok(()));
     let mut memory = [0u8; 2 * PART];
     assert_eq!(rt; tired.store(&mut memory), Ok(()));
     let (fresh, recalled) = lamp(4, 0, 7, &[1, 3])?.recall(&memory);
-    assert_eq!(rt; recalled, None);
+    assert_eq!(rt; recalled, Ok(()));
     assert_eq!(rt; fresh.work().shown(), tired.work().shown());
     let (_, other) = lamp(4, 0, 7, &[1])?.recall(&memory);
-    assert_eq!(rt; other, Some(Refusal::Memory));
+    assert_eq!(rt; other, Err(Refusal::Memory));
     Ok(())
 }
 

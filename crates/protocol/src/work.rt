@@ -89,8 +89,8 @@ impl Lamp {
         ensures { result ≡ best_of self.now.site.own (remembered self.now) }
     {
         let mut best = Best::begin(self.site.own);
-        for k in 0..self.site.wires {
-            best = best.compared(self.site.own.most, self.site.places[k], self.heard[k]);
+        for (place, said) in self.places().iter().zip(&self.heard) {
+            best = best.compared(self.site.own.most, *place, *said);
         }
         best
     }
@@ -101,8 +101,8 @@ impl Lamp {
     {
         let Own { most, place, .. } = self.site.own;
         let mut size = 1;
-        for k in 0..self.site.wires {
-            size = cut_sum(most, size, best.child_size(place, self.heard[k]));
+        for said in self.tellings() {
+            size = cut_sum(most, size, best.child_size(place, *said));
         }
         size
     }
@@ -146,10 +146,9 @@ impl Lamp {
         let Own { most, place, .. } = self.site.own;
         let mut given = [0; WIRES];
         let mut next = cut_sum(most, number, 1);
-        for k in 0..self.site.wires {
-            let said = self.heard[k];
-            given[k] = best.given_to(place, said, next);
-            next = cut_sum(most, next, best.child_size(place, said));
+        for (k, said) in self.tellings().iter().enumerate() {
+            given[k] = best.given_to(place, *said, next);
+            next = cut_sum(most, next, best.child_size(place, *said));
         }
         given
     }

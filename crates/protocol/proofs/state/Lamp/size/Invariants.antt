@@ -3,5 +3,5 @@ use Rattle.protocol.specs.Rows.{remembered}
 use Rattle.protocol.specs.Rules.{size_of}
 use Rattle.protocol.proofs.state.Lamp.size.Given as goal
 
-abbrev pub invariant-loop-k : goal.invariant-loop-k
-invariant-loop-k l = l.size ≡ size_of l.self.site.own l.best (take l.k (remembered l.self))
+abbrev pub invariant-loop-said : goal.invariant-loop-said
+invariant-loop-said l = l.size ≡ size_of l.self.site.own l.best (take l.said-index (remembered l.self))
