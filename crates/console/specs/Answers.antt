@@ -12,15 +12,15 @@ use Rattle.protocol.specs.declared.state.Lamp.{Lamp}
 use Rattle.protocol.specs.declared.state.Numbers.{Numbers}
 use Rattle.protocol.specs.Rows.{places_of}
 use Rattle.protocol.specs.Hearing.{refused_by, Heard}
-use Rattle.protocol.specs.Works.{shown, Worked, tell_of}
+use Rattle.protocol.specs.Works.{shown, numbers_line, Worked, tell_of}
 use Rattle.console.specs.declared.answers.Answer.{Answer}
 use Rattle.console.specs.declared.answers.Answer.TheVariants as said
 use Rattle.console.specs.Lines.{Meaning, work, hear, tell, show, unknown}
 
 -- nothing is said where something was heard, else the refusal
-abbrev pub heard_as : Option Refusal → Answer
-heard_as None = said.Silence
-heard_as (Some refusal) = said.Refused refusal
+abbrev pub heard_as : Result (Unit {0}) Refusal → Answer
+heard_as (Ok done) = said.Silence
+heard_as (Err refusal) = said.Refused refusal
 
 -- the frame on the wire to a place, if there is one yet, or the refusal
 abbrev pub told_as : ℕ → Result (Option (List ℕ)) Refusal → Answer
@@ -57,9 +57,7 @@ frame_text place frame = decimal place ++ (codes " " ++ (hex_of frame ++ codes "
 
 -- six numbers in their order, a space between two
 abbrev pub numbers_text : Numbers → List ℕ
-numbers_text n =
-    decimal n.best ++ (codes " " ++ (decimal n.distance ++ (codes " " ++ (decimal n.parent ++ (codes " " ++ (decimal n.size ++
-    (codes " " ++ (decimal n.total ++ (codes " " ++ (decimal n.number ++ codes "\n"))))))))))
+numbers_text n = numbers_line n ++ codes "\n"
 
 -- the line of an answer that has one: a refusal by its number, a frame with its place, numbers, `none`
 abbrev pub line_text : Answer → List ℕ

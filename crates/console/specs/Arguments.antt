@@ -1,5 +1,8 @@
 -- The arguments, by their words.
 use Rattle.std.specs.Prelude.{◌≡◌, ℕ, cond, List, [], ◌∷◌, Some, None, Ok, Err, Option, Result}
+use Rattle.telling.specs.declared.fault.Fault.{Fault}
+use Rattle.telling.specs.declared.fault.Fault.TheVariants.{OutOfMemory, Refused}
+use Rattle.telling.specs.declared.refusal.Refusal.{Refusal}
 use Rattle.telling.specs.declared.refusal.Refusal.TheVariants.{Input}
 use Rattle.text.specs.Decimal.{number_of}
 use Rattle.text.specs.Hex.{with_first}
@@ -8,8 +11,6 @@ use Rattle.protocol.specs.declared.facts.Site.{Site}
 use Rattle.protocol.specs.Rows.{places_of}
 use Rattle.protocol.specs.Wiring.{is_sound}
 use Rattle.places.specs.Places.{rising_of}
-use Rattle.console.specs.declared.fault.Fault.{Fault}
-use Rattle.console.specs.declared.fault.Fault.TheVariants.{OutOfMemory, Refused}
 
 -- the numbers that words write, where each writes one
 unfoldable pub numbers_in : List (List ℕ) → Option (List ℕ)
@@ -37,7 +38,7 @@ abbrev pub site_of : List (List ℕ) → Option (Own × List ℕ)
 site_of words = site_in (numbers_in words)
 
 -- what is answered where a site is told: that site, and refusal 4 where there is none; only for want of memory neither
-abbrev pub SiteOrRefusal : Option (Own × List ℕ) → Result Site Fault → Type 0
+abbrev pub SiteOrRefusal : Option (Own × List ℕ) → Result Site (Fault Refusal) → Type 0
 SiteOrRefusal told (Ok site) = told ≡ Some (site.own, places_of site)
 SiteOrRefusal told (Err OutOfMemory) = Unit {0}
 SiteOrRefusal told (Err (Refused refusal)) = (refusal ≡ Input) × (told ≡ None)

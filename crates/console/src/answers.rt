@@ -24,16 +24,26 @@ pub enum Answer {
     NotYet,
 }
 
-impl Answer {
-    fn heard(refusal: Option<Refusal>) -> Answer
-        ensures { result ≡ heard_as refusal }
-    {
-        match refusal {
-            Some(refusal) => Answer::Refused(refusal),
-            None => Answer::Silence,
+impl From<Result<(), Refusal>> for Answer {
+    ghost from_gives = { λ heard answer. answer ≡ heard_as heard };
+
+    fn from(heard: Result<(), Refusal>) -> Answer {
+        match heard {
+            Ok(()) => Answer::Silence,
+            Err(refusal) => Answer::Refused(refusal),
         }
     }
+}
 
+impl From<Option<Numbers>> for Answer {
+    ghost from_gives = { λ shown answer. answer ≡ shown_as shown };
+
+    fn from(shown: Option<Numbers>) -> Answer {
+        shown.map_or(Answer::NotYet, Answer::Numbers)
+    }
+}
+
+impl Answer {
     // The answer to what lies on the wire to a place.
     fn told(place: u32, told: Result<Option<[u8; FRAME]>, Refusal>) -> Answer
         ensures { result ≡ told_as place told }
@@ -42,15 +52,6 @@ impl Answer {
             Ok(Some(frame)) => Answer::Frame(place, frame),
             Ok(None) => Answer::NotYet,
             Err(refusal) => Answer::Refused(refusal),
-        }
-    }
-
-    fn shown(shown: Option<Numbers>) -> Answer
-        ensures { result ≡ shown_as shown }
-    {
-        match shown {
-            Some(numbers) => Answer::Numbers(numbers),
-            None => Answer::NotYet,
         }
     }
 }
@@ -62,12 +63,12 @@ pub fn answer_to(lamp: Lamp, order: &Order) -> (Lamp, Answer)
     match order {
         Order::Work => (lamp.work(), Answer::Frames),
         Order::Hear(from, Some(frame)) => {
-            let (lamp, refusal) = lamp.hear(*from, frame.as_slice());
-            (lamp, Answer::heard(refusal))
+            let (lamp, heard) = lamp.hear(*from, frame.as_slice());
+            (lamp, Answer::from(heard))
         }
         Order::Hear(_, None) => (lamp, Answer::Refused(Refusal::Unreadable)),
         Order::Tell(to) => (lamp, Answer::told(*to, lamp.tell(*to))),
-        Order::Show => (lamp, Answer::shown(lamp.shown())),
+        Order::Show => (lamp, Answer::from(lamp.shown())),
         Order::Unknown => (lamp, Answer::Refused(Refusal::Input)),
     }
 }
@@ -108,8 +109,7 @@ fn line_text(heap: Global, answer: Answer) -> Result<String, AllocError>
 pub fn refusal_text(heap: Global, refusal: Refusal) -> Result<String, AllocError>
     ensures { IfOk result (λ t. string_bytes t ≡ refusal_text refusal) }
 {
-    let number = refusal.number();
-    format!(in heap; "{number}\n")
+    format!(in heap; "{refusal}\n")
 }
 
 fn frame_text(heap: Global, place: u32, frame: &[u8]) -> Result<String, AllocError>
@@ -122,13 +122,5 @@ fn frame_text(heap: Global, place: u32, frame: &[u8]) -> Result<String, AllocErr
 pub fn numbers_text(heap: Global, numbers: Numbers) -> Result<String, AllocError>
     ensures { IfOk result (λ t. string_bytes t ≡ numbers_text numbers) }
 {
-    let Numbers {
-        best,
-        distance,
-        parent,
-        size,
-        total,
-        number,
-    } = numbers;
-    format!(in heap; "{best} {distance} {parent} {size} {total} {number}\n")
+    format!(in heap; "{numbers}\n")
 }

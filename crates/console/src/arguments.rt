@@ -3,15 +3,15 @@ ghost use Rattle.std.specs.Prelude.{◌≡◌, map, IfOk, vec_items, string_byte
 ghost use Rattle.std.specs.Option.{option_map};
 ghost use Rattle.console.specs.Arguments.{numbers_in, site_from, site_of, SiteOrRefusal};
 
-use super::fault::Fault;
 use places::rising;
 use protocol::facts::{Own, Site};
 use std::alloc::{AllocError, Global};
+use telling::fault::Fault;
 use telling::refusal::Refusal;
 use text::number;
 
 // The site that a program's words name, behind the program's own name.
-pub fn site_of(heap: Global, words: &[String]) -> Result<Site, Fault>
+pub fn site_of(heap: Global, words: &[String]) -> Result<Site, Fault<Refusal>>
     ensures { SiteOrRefusal (site_of (map string_bytes words.now)) result }
 {
     match numbers_of(heap, words)? {
@@ -34,7 +34,7 @@ fn numbers_of(heap: Global, words: &[String]) -> Result<Option<Vec<u32>>, AllocE
     Ok(Some(numbers))
 }
 
-fn site_from(heap: Global, numbers: &[u32]) -> Result<Site, Fault>
+fn site_from(heap: Global, numbers: &[u32]) -> Result<Site, Fault<Refusal>>
     ensures { SiteOrRefusal (site_from numbers.now) result }
 {
     let [most, place, name, named @ ..] = numbers else {
@@ -54,7 +54,7 @@ mod tests {
     use super::*;
     use std::test::Fail;
 
-    fn site(heap: Global, line: &str) -> Result<Result<Site, Fault>, AllocError> {
+    fn site(heap: Global, line: &str) -> Result<Result<Site, Fault<Refusal>>, AllocError> {
         let mut words = Vec::new(heap);
         for word in line.split(' ') {
             words.push(String::from_str(heap, word)?)?;

@@ -3,5 +3,4 @@
 
 pub mod answers;
 pub mod arguments;
-pub mod fault;
 pub mod orders;
