@@ -48,7 +48,7 @@ impl Lamp {
         if memory.len() != PART * wires {
             return Err(Refusal::Memory);
         }
-        for (k, said) in self.tellings().iter().enumerate() {
+        for (k, said) in self.heard().iter().enumerate() {
             let _ = said.store(memory, k);
         }
         Ok(())

@@ -64,7 +64,7 @@ impl Lamp {
     }
 
     // What was heard last, by wire.
-    pub(crate) fn tellings(&self) -> &[Telling]
+    pub(crate) fn heard(&self) -> &[Telling]
         ensures { result.now ≡ take self.now.site.wires self.now.heard }
     {
         &self.heard[0..self.site.wires]

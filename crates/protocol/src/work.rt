@@ -2,7 +2,7 @@
 ghost use Rattle.std.specs.Prelude.{◌≡◌, ◌+◌, min, if◌then◌else◌};
 ghost use Rattle.protocol.specs.Rows.{Neighbour, remembered};
 ghost use Rattle.protocol.specs.Works.{Gives, Worked};
-ghost use Rattle.protocol.specs.Rules.{beginning, compared, best_of, is_child, child_size, size_of, telling_at, numbers_of};
+ghost use Rattle.protocol.specs.Rules.{beginning, compared, best_of, is_child, size_of, telling_at, numbers_of};
 
 use super::facts::{Own, WIRES};
 use super::state::{Lamp, Numbers, Work};
@@ -57,22 +57,11 @@ impl Best {
             && said.distance.checked_sub(self.distance) == Some(1)
     }
 
-    // The next number for a child, 0 for any other neighbour.
-    fn given_to(self, place: u32, said: Telling, next: u32) -> u32
-        ensures { result ≡ (if is_child place self said then next else 0) }
+    // A number that counts for a child, 0 for any other neighbour.
+    fn if_child(self, place: u32, said: Telling, n: u32) -> u32
+        ensures { result ≡ (if is_child place self said then n else 0) }
     {
-        if self.is_child(place, said) { next } else { 0 }
-    }
-
-    // The size that a child told, nothing for any other neighbour.
-    fn child_size(self, place: u32, said: Telling) -> u32
-        ensures { result ≡ child_size place self said }
-    {
-        if self.is_child(place, said) {
-            said.size
-        } else {
-            0
-        }
+        if self.is_child(place, said) { n } else { 0 }
     }
 }
 
@@ -101,8 +90,8 @@ impl Lamp {
     {
         let Own { most, place, .. } = self.site.own;
         let mut size = 1;
-        for said in self.tellings() {
-            size = cut_sum(most, size, best.child_size(place, *said));
+        for said in self.heard() {
+            size = cut_sum(most, size, best.if_child(place, *said, said.size));
         }
         size
     }
@@ -146,9 +135,9 @@ impl Lamp {
         let Own { most, place, .. } = self.site.own;
         let mut given = [0; WIRES];
         let mut next = cut_sum(most, number, 1);
-        for (k, said) in self.tellings().iter().enumerate() {
-            given[k] = best.given_to(place, *said, next);
-            next = cut_sum(most, next, best.child_size(place, *said));
+        for (k, said) in self.heard().iter().enumerate() {
+            given[k] = best.if_child(place, *said, next);
+            next = cut_sum(most, next, best.if_child(place, *said, said.size));
         }
         given
     }
