@@ -7,3 +7,4 @@ mod Lists
 mod Fillings
 mod Rounds
 mod Standing
+mod Answering

@@ -1,5 +1,5 @@
 -- What carrying out one command comes to, in words that are lent for it.
-use Rattle.std.specs.Prelude.{◌≡◌, ℕ, ◌*◌, Bool, true, cond, ◌&&◌, length, IfSome, Some, None, vec_items, Option, ◌==◌, nat_lt}
+use Rattle.std.specs.Prelude.{◌≡◌, ℕ, ◌*◌, Bool, true, cond, ◌&&◌, length, Some, None, Err, vec_items, Option, Result, OnErr, ◌==◌, nat_lt}
 use Rattle.telling.specs.declared.refusal.Refusal.{Refusal}
 use Rattle.telling.specs.declared.refusal.Refusal.TheVariants.{Memory}
 use Rattle.protocol.specs.declared.state.Numbers.{Numbers}
@@ -21,13 +21,13 @@ is_roomy h s =
     (length s.lamps.now == 6 * h.count)
 
 -- how a command is refused: by 3 where the words are too few or too many
-abbrev pub refused_as : Hall → State → Command → Option Refusal
-refused_as h s c = cond (is_roomy h s) (refusal_of h c) (Some Memory)
+abbrev pub refused_as : Hall → State → Command → Result (Unit {0}) Refusal
+refused_as h s c = cond (is_roomy h s) (refusal_of h c) (Err Memory)
 
 -- one command was carried out: whatever net the words stood for, they now stand for that net after the command; what was refused has changed nothing at all
-pub record Carried (t : Topology) (before after : State) (c : Command) (refusal : Option Refusal) : Type 0 where
-  pub refused : refusal ≡ refused_as (hall_of t) before c
-  pub same : IfSome refusal (λ _. after ≡ before)
+pub record Carried (t : Topology) (before after : State) (c : Command) (answer : Result (Unit {0}) Refusal) : Type 0 where
+  pub refused : answer ≡ refused_as (hall_of t) before c
+  pub same : OnErr answer (after ≡ before)
   pub becomes : is_roomy (hall_of t) before ≡ true → Becomes (hall_of t) before after (λ n. carried_out (hall_of t) (vec_items t.sites) n c)
 
 -- the numbers of the lamp at a place, where there is one and the words are as many as the hall wants

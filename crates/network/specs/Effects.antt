@@ -1,5 +1,5 @@
 -- What each command of a script makes of a net, and which commands are refused.
-use Rattle.std.specs.Prelude.{ℕ, Bool, true, false, cond, ◌&&◌, List, Some, None, fold, Option, nat_lt}
+use Rattle.std.specs.Prelude.{ℕ, Bool, true, false, cond, ◌&&◌, List, Ok, Err, fold, Result, nat_lt}
 use Rattle.telling.specs.declared.Telling.{Telling}
 use Rattle.telling.specs.declared.frame.Reading.{Reading}
 use Rattle.telling.specs.declared.frame.Reading.TheVariants.{Told, Noise}
@@ -87,26 +87,26 @@ effect_of h sites Show n = n
 effect_of h sites Unknown n = n
 
 -- refused where a test fails
-abbrev pub unless : Bool → Refusal → Option Refusal
-unless good refusal = cond good None (Some refusal)
+abbrev pub unless : Bool → Refusal → Result (Unit {0}) Refusal
+unless good refusal = cond good (Ok tt) (Err refusal)
 
 -- the refusal of a command: 2 where there is no such wire; 4 where there is no such lamp or number, or the line is not of the format
-abbrev pub refusal_of : Hall → Command → Option Refusal
-refusal_of h (Fill seed) = None
+abbrev pub refusal_of : Hall → Command → Result (Unit {0}) Refusal
+refusal_of h (Fill seed) = Ok tt
 refusal_of h (SetMemory j i f x) = unless (is_wired h j i) NoWire
 refusal_of h (SetWire i j f x) = unless (is_wired h j i) NoWire
 refusal_of h (SetNoise i j) = unless (is_wired h j i) NoWire
 refusal_of h (SetLamp i f x) = unless (is_of_lamp f && nat_lt i h.count) Input
 refusal_of h (Do (Work i)) = unless (nat_lt i h.count) Input
 refusal_of h (Do (Hear j i)) = unless (is_wired h j i) NoWire
-refusal_of h (Round seed) = None
-refusal_of h Show = None
-refusal_of h Unknown = Some Input
+refusal_of h (Round seed) = Ok tt
+refusal_of h Show = Ok tt
+refusal_of h Unknown = Err Input
 
 -- a refused command changes nothing
-abbrev pub unless_refused : Option Refusal → Net → Net → Net
-unless_refused None before after = after
-unless_refused (Some refusal) before after = before
+abbrev pub unless_refused : Result (Unit {0}) Refusal → Net → Net → Net
+unless_refused (Ok done) before after = after
+unless_refused (Err refusal) before after = before
 
 -- a net after a command, and after all commands of a script in their order
 abbrev pub carried_out : Hall → List Site → Net → Command → Net

@@ -5,7 +5,7 @@ ghost use Rattle.topology.specs.Reading.{hall_of};
 ghost use Rattle.network.specs.Stands.{Roomy, Becomes};
 ghost use Rattle.network.specs.Order.{doings_in, order_of};
 ghost use Rattle.network.specs.Effects.{all_filled, effect_of};
-ghost use Rattle.network.specs.Carried.{is_roomy, Carried, numbers_at};
+ghost use Rattle.network.specs.Carried.{is_roomy, refused_as, Carried, numbers_at};
 
 use super::commands::Command;
 use super::order::{all_doings, shuffle};
@@ -67,23 +67,30 @@ impl State<'_, '_, '_, '_> {
         Ok(())
     }
 
+    // How a command is refused in these words, where it is.
+    fn refused_as(&self, hall: &Topology, command: Command) -> Result<(), Refusal>
+        ensures { result ≡ refused_as (hall_of hall.now) self.now command }
+    {
+        if !self.is_roomy(hall) {
+            return Err(Refusal::Memory);
+        }
+        refusal_of(hall, command)
+    }
+
     // Carries a command out, or refuses it and changes nothing. Where no memory is had, nothing has changed either.
     pub fn carry_out(
         &mut self,
         heap: Global,
         hall: &Topology,
         command: Command,
-    ) -> Result<Option<Refusal>, AllocError>
-        ensures { MatchResult result (λ refusal. Carried hall.now self.old self.new command refusal) (λ _. self.new ≡ self.old) }
+    ) -> Result<Result<(), Refusal>, AllocError>
+        ensures { MatchResult result (λ answer. Carried hall.now self.old self.new command answer) (λ _. self.new ≡ self.old) }
     {
-        if !self.is_roomy(hall) {
-            return Ok(Some(Refusal::Memory));
+        let answer = self.refused_as(hall, command);
+        if answer.is_ok() {
+            self.apply(heap, hall, command)?;
         }
-        if let Some(refusal) = refusal_of(hall, command) {
-            return Ok(Some(refusal));
-        }
-        self.apply(heap, hall, command)?;
-        Ok(None)
+        Ok(answer)
     }
 
     // What the lamp at a place worked out last, where there is one.

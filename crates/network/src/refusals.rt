@@ -11,10 +11,10 @@ use model::Doing;
 use telling::refusal::Refusal;
 use topology::hall::Topology;
 
-fn unless(good: bool, refusal: Refusal) -> Option<Refusal>
+fn unless(good: bool, refusal: Refusal) -> Result<(), Refusal>
     ensures { result ≡ unless good refusal }
 {
-    if good { None } else { Some(refusal) }
+    if good { Ok(()) } else { Err(refusal) }
 }
 
 fn hangs(hall: &Topology, place: u32) -> bool
@@ -23,31 +23,27 @@ fn hangs(hall: &Topology, place: u32) -> bool
     (place as usize) < hall.sites().len()
 }
 
-fn no_wire(hall: &Topology, by: u32, of: u32) -> Option<Refusal>
+fn wired(hall: &Topology, by: u32, of: u32) -> Result<(), Refusal>
     ensures { result ≡ unless (is_wired (hall_of hall.now) by of) NoWire }
 {
-    match slot(hall, by, of) {
-        Some(_) => None,
-        None => Some(Refusal::NoWire),
-    }
+    slot(hall, by, of).ok_or(Refusal::NoWire)?;
+    Ok(())
 }
 
-// How a command is refused, none where it is not.
-pub fn refusal_of(hall: &Topology, command: Command) -> Option<Refusal>
+// How a command is refused, where it is.
+pub fn refusal_of(hall: &Topology, command: Command) -> Result<(), Refusal>
     ensures { result ≡ refusal_of (hall_of hall.now) command }
 {
     match command {
-        Command::SetMemory(by, of, _, _) => no_wire(hall, by, of),
-        Command::SetWire(from, to, _, _) => no_wire(hall, to, from),
-        Command::SetNoise(from, to) => no_wire(hall, to, from),
+        Command::SetMemory(by, of, _, _) => wired(hall, by, of),
+        Command::SetWire(from, to, _, _) => wired(hall, to, from),
+        Command::SetNoise(from, to) => wired(hall, to, from),
         Command::SetLamp(place, field, _) => {
             unless(field.is_of_lamp() && hangs(hall, place), Refusal::Input)
         }
         Command::Do(Doing::Work(place)) => unless(hangs(hall, place), Refusal::Input),
-        Command::Do(Doing::Hear(by, of)) => no_wire(hall, by, of),
-        Command::Unknown => Some(Refusal::Input),
-        Command::Fill(_) => None,
-        Command::Round(_) => None,
-        Command::Show => None,
+        Command::Do(Doing::Hear(by, of)) => wired(hall, by, of),
+        Command::Unknown => Err(Refusal::Input),
+        Command::Fill(_) | Command::Round(_) | Command::Show => Ok(()),
     }
 }
