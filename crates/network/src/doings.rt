@@ -23,6 +23,7 @@ fn row(memories: &[u32], place: usize, wires: usize) -> [Telling; WIRES]
     ensures { Recalls (λ k. telling_in memories.now (16 * place + k)) result wires }
 {
     let mut heard = [NOTHING; WIRES];
+    // tried: nothing of what `array::from_fn` makes is known without a proof by hand over its closure
     for k in 0..wires {
         heard[k] = telling_in(memories, WIRES * place + k);
     }
@@ -57,8 +58,8 @@ impl State<'_, '_, '_, '_> {
         ensures { Becomes (hall_of hall.now) self.old self.new (telling (hall_of hall.now) place (told_by site.now work.now)) }
     {
         let places = site.places();
-        for k in 0..places.len() {
-            self.lay(hall, place, places[k], work.telling(k));
+        for (k, to) in places.iter().enumerate() {
+            self.lay(hall, place, *to, work.telling(k));
         }
     }
 

@@ -11,25 +11,14 @@ use topology::hall::Topology;
 pub(crate) fn slot(hall: &Topology, by: u32, of: u32) -> Option<usize>
     ensures { MatchOption result (is_wired (hall_of hall.now) by of ≡ false) (λ s. Slot (hall_of hall.now) by of s) }
 {
-    let sites = hall.sites();
     let place = by as usize;
-    if place >= sites.len() {
-        return None;
-    }
-    match sites[place].wire_to(of) {
-        Some(k) => Some(WIRES * place + k),
-        None => None,
-    }
+    let wire = hall.sites().get(place)?.wire_to(of)?;
+    Some(WIRES * place + wire)
 }
 
 // The site of the lamp at a place, where there is one.
 pub(crate) fn site(hall: &Topology, place: u32) -> Option<Site>
     ensures { MatchOption result ((hall_of hall.now).count ≤ place) (λ s. SiteOf (hall_of hall.now) place s) }
 {
-    let sites = hall.sites();
-    let place = place as usize;
-    if place >= sites.len() {
-        return None;
-    }
-    Some(sites[place])
+    hall.sites().get(place as usize).copied()
 }

@@ -1,15 +1,11 @@
-use Rattle.network.proofs.Sites.{no_lamp, slot_at, no_slot_at}
+use Rattle.network.proofs.Sites.{no_lamp, no_slot_at}
 use Rattle.network.proofs.slots.slot.Goals as goal
 
-pub returns-then-place-sites : goal.returns-then-place-sites
-returns-then-place-sites c = no_lamp c.args.hall.now _ c.sites-sites.ensures c.args.by c.args.of c.if-place-sites.true
+pub returns-in_err-get : goal.returns-in_err-get
+returns-in_err-get c = rw c.from_residual.ensures (no_lamp c.args.hall.now _ c.sites.ensures c.args.by c.args.of c.in_err-get.ensures.lookup.3)
 
-pub returns-in-Some : goal.returns-in-Some
-returns-in-Some c =
-    slot_at c.args.hall.now _ c.sites-sites.ensures c.args.by c.args.of c.index-sites-place.result c.if-place-sites.false c.index-sites-place.is
-    c.in-Some.k c.in-Some.ensures
-
-pub returns-in-None : goal.returns-in-None
-returns-in-None c =
-    no_slot_at c.args.hall.now _ c.sites-sites.ensures c.args.by c.args.of c.index-sites-place.result c.if-place-sites.false c.index-sites-place.is
-    c.in-None.ensures
+pub returns-in_err-wire : goal.returns-in_err-wire
+returns-in_err-wire c =
+    let found = c.in_ok-get.ensures.lookup in
+    rw c.from_residual-in_err-wire.ensures
+    (no_slot_at c.args.hall.now _ c.sites.ensures c.args.by c.args.of c.in_ok-get.field-0.now found.3.0 found.1 c.in_err-wire.ensures)
