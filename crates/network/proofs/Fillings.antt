@@ -1,80 +1,109 @@
--- Drawing numbers into the state of a hall.
-use Rattle.std.proofs.Common.{◌≡◌, ℕ, ◌+◌, ◌<◌, List, length, get_or, take, sym, refl, ap, ◌∙◌, subst}
+-- Drawing numbers into a hall's lent words.
+use Rattle.std.proofs.Common.{◌≡◌, ℕ, ◌+◌, ◌<◌, List, length, get_or, take, sym, ap, ◌∙◌, subst}
 use Rattle.std.proofs.lemmas.List.Sums.{fold_more}
 use Rattle.telling.specs.declared.Telling.{Telling}
 use Rattle.telling.specs.declared.frame.Reading.TheVariants.{Told}
 use Rattle.protocol.specs.declared.state.Numbers.{Numbers}
 use Rattle.model.specs.declared.Doing.{Doing}
 use Rattle.model.specs.declared.Doing.TheVariants.{Work, Hear}
-use Rattle.model.specs.Halls.{Hall}
 use Rattle.model.specs.Nets.{Net, remembering, laid, noted}
-use Rattle.network.specs.declared.parts.Part.{Part}
-use Rattle.network.specs.declared.parts.Part.TheVariants.{Memories, Wires, Lamps}
-use Rattle.network.specs.declared.state.State.{State}
+use Rattle.topology.specs.Reading.{hall_of}
+use Rattle.network.specs.declared.lent.Lent.{Lent}
+use Rattle.network.specs.Parts.{Part, Memories, Wires, Lamps}
 use Rattle.network.specs.Sequence.{after, telling_from, numbers_from}
-use Rattle.network.specs.Stands.{Roomy, Stands, Becomes, BecomesDrawn}
+use Rattle.network.specs.Stands.{Stands, BecomesDrawn}
 use Rattle.network.specs.Effects.{drawn, filled}
+use Rattle.network.specs.Turns.{state_in, Turns, TurnsDrawn}
+use Rattle.network.proofs.Turning.{stays, stays_then}
 
-module _ (h : Hall) (a b : State) (s s' : ℕ) where
-  -- a doing that is known
-  pub drawn_as : (part p : Part) (doing d : Doing) → part ≡ p → doing ≡ d → BecomesDrawn h a b s s' (λ sn. drawn p sn d) → BecomesDrawn h a b s s' (λ sn. drawn part sn doing)
-  drawn_as part p doing d e f done =
-      subst (λ p. BecomesDrawn h a b s s' (λ sn. drawn p sn doing)) (sym e) (subst (λ d. BecomesDrawn h a b s s' (λ sn. drawn p sn d)) (sym f) done)
-
+module _ (a b : Lent) (s s' : ℕ) (d : Doing) where
   pub memory_drawn :
-      (j i : ℕ) (said : Telling) → said ≡ telling_from s → s' ≡ after 7 s → Becomes h a b (remembering j i said) → BecomesDrawn h a b s s' (λ sn. drawn Memories sn (Hear j i))
+      (j i : ℕ) (said : Telling) → d ≡ Hear j i → said ≡ telling_from s → s' ≡ after 7 s → Turns a b (remembering j i said) → TurnsDrawn a b s s' (λ sn. drawn Memories sn d)
   unfolding drawn
-  memory_drawn j i said e f done =
-      record { room = done.room; drawn = λ n stands. (f, subst (λ t. Stands h b (remembering j i t n)) e (done.stands n stands)) }
+  memory_drawn j i said is e f done =
+      rw is
+      (record {
+        lent = done.lent;
+        drawn = record { room = done.becomes.room; drawn = λ n stands. (f, subst (λ t. Stands (hall_of a.hall.now) (state_in b) (remembering j i t n)) e (done.becomes.stands n stands)) };
+      })
 
   pub wire_drawn :
-      (i j : ℕ) (said : Telling) → said ≡ telling_from s → s' ≡ after 7 s → Becomes h a b (laid i j (Told said)) → BecomesDrawn h a b s s' (λ sn. drawn Wires sn (Hear i j))
+      (i j : ℕ) (said : Telling) → d ≡ Hear i j → said ≡ telling_from s → s' ≡ after 7 s → Turns a b (laid i j (Told said)) → TurnsDrawn a b s s' (λ sn. drawn Wires sn d)
   unfolding drawn
-  wire_drawn i j said e f done =
-      record { room = done.room; drawn = λ n stands. (f, subst (λ t. Stands h b (laid i j (Told t) n)) e (done.stands n stands)) }
+  wire_drawn i j said is e f done =
+      rw is
+      (record {
+        lent = done.lent;
+        drawn = record { room = done.becomes.room; drawn = λ n stands. (f, subst (λ t. Stands (hall_of a.hall.now) (state_in b) (laid i j (Told t) n)) e (done.becomes.stands n stands)) };
+      })
 
   pub lamp_drawn :
-      (i : ℕ) (w : Numbers) → w ≡ numbers_from s → s' ≡ after 6 s → Becomes h a b (noted i w) → BecomesDrawn h a b s s' (λ sn. drawn Lamps sn (Work i))
+      (i : ℕ) (w : Numbers) → d ≡ Work i → w ≡ numbers_from s → s' ≡ after 6 s → Turns a b (noted i w) → TurnsDrawn a b s s' (λ sn. drawn Lamps sn d)
   unfolding drawn
-  lamp_drawn i w e f done =
-      record { room = done.room; drawn = λ n stands. (f, subst (λ t. Stands h b (noted i t n)) e (done.stands n stands)) }
+  lamp_drawn i w is e f done =
+      rw is
+      (record {
+        lent = done.lent;
+        drawn = record { room = done.becomes.room; drawn = λ n stands. (f, subst (λ t. Stands (hall_of a.hall.now) (state_in b) (noted i t n)) e (done.becomes.stands n stands)) };
+      })
 
 -- a part that has nothing for a doing
-module _ (h : Hall) (a : State) (s : ℕ) (room : Roomy h a) where
-  pub no_lamp_drawn : (j i : ℕ) → BecomesDrawn h a a s s (λ sn. drawn Lamps sn (Hear j i))
-  unfolding drawn
-  no_lamp_drawn j i = record { room = room; drawn = λ n stands. (refl, stands) }
+module _ (a : Lent) (s : ℕ) (d : Doing) where
+  abbrev untouched : Part → Type 0
+  untouched part = (n : Net) → drawn part (s, n) d ≡ (s, n)
 
-  pub no_memory_drawn : (i : ℕ) → BecomesDrawn h a a s s (λ sn. drawn Memories sn (Work i))
-  unfolding drawn
-  no_memory_drawn i = record { room = room; drawn = λ n stands. (refl, stands) }
+  as_it_was : (part : Part) → untouched part → TurnsDrawn a a s s (λ sn. drawn part sn d)
+  as_it_was part same =
+      record {
+        lent = stays a;
+        drawn = record {
+          room = a.roomy;
+          drawn = λ n stands. (sym (ap (λ sn. sn.0) (same n)), subst (λ sn. Stands (hall_of a.hall.now) (state_in a) sn.1) (sym (same n)) stands);
+        };
+      }
 
-  pub no_wire_drawn : (i : ℕ) → BecomesDrawn h a a s s (λ sn. drawn Wires sn (Work i))
+  pub no_lamp_drawn : (j i : ℕ) → d ≡ Hear j i → TurnsDrawn a a s s (λ sn. drawn Lamps sn d)
   unfolding drawn
-  no_wire_drawn i = record { room = room; drawn = λ n stands. (refl, stands) }
+  no_lamp_drawn j i is = as_it_was Lamps (λ n. ap (drawn Lamps (s, n)) is)
+
+  pub no_memory_drawn : (i : ℕ) → d ≡ Work i → TurnsDrawn a a s s (λ sn. drawn Memories sn d)
+  unfolding drawn
+  no_memory_drawn i is = as_it_was Memories (λ n. ap (drawn Memories (s, n)) is)
+
+  pub no_wire_drawn : (i : ℕ) → d ≡ Work i → TurnsDrawn a a s s (λ sn. drawn Wires sn d)
+  unfolding drawn
+  no_wire_drawn i is = as_it_was Wires (λ n. ap (drawn Wires (s, n)) is)
 
 -- one after the other
 pub drawn_then :
-    (h : Hall) (a b c : State) (s s' s'' : ℕ) (f g : ℕ × Net → ℕ × Net) → BecomesDrawn h a b s s' f → BecomesDrawn h b c s' s'' g → BecomesDrawn h a c s s'' (λ sn. g (f sn))
-drawn_then h a b c s s' s'' f g first then =
+    (a b c : Lent) (s s' s'' : ℕ) (f g : ℕ × Net → ℕ × Net) → TurnsDrawn a b s s' f → TurnsDrawn b c s' s'' g → TurnsDrawn a c s s'' (λ sn. g (f sn))
+drawn_then a b c s s' s'' f g first then =
+    let as_was = ap (λ h. hall_of h.now) first.lent.hall in
+    let last = subst (λ h. BecomesDrawn h (state_in b) (state_in c) s' s'' g) as_was then.drawn in
     record {
-      room = then.room;
-      drawn = λ n stands.
-          let one = first.drawn n stands in
-          let two = then.drawn (f (s, n)).1 one.1 in
-          let same : (s', (f (s, n)).1) ≡ f (s, n) = ap (λ x. (x, (f (s, n)).1)) one.0 in
-          (two.0 ∙ ap (λ sn. (g sn).0) same, subst (λ sn. Stands h c (g sn).1) same two.1);
+      lent = stays_then a b first.lent c then.lent;
+      drawn = record {
+        room = last.room;
+        drawn = λ n stands.
+            let one = first.drawn.drawn n stands in
+            let two = last.drawn (f (s, n)).1 one.1 in
+            let same : (s', (f (s, n)).1) ≡ f (s, n) = ap (λ x. (x, (f (s, n)).1)) one.0 in
+            (two.0 ∙ ap (λ sn. (g sn).0) same, subst (λ sn. Stands (hall_of a.hall.now) (state_in c) (g sn).1) same two.1);
+      };
     }
 
 pub drawn_more :
-    (h : Hall) (a b c : State) (s s' s'' : ℕ) (part : Part) (ds : List Doing) (k : ℕ) (d : Doing) → k < length ds → BecomesDrawn h a b s s' (filled part (take k ds)) →
-    BecomesDrawn h b c s' s'' (λ sn. drawn part sn (get_or ds k d)) → BecomesDrawn h a c s s'' (filled part (take (k + 1) ds))
-drawn_more h a b c s s' s'' part ds k d l first then =
-    let done = drawn_then h a b c s s' s'' (filled part (take k ds)) (λ sn. drawn part sn (get_or ds k d)) first then in
+    (a b c : Lent) (s s' s'' : ℕ) (part : Part) (ds : List Doing) (k : ℕ) (d : Doing) → k < length ds → TurnsDrawn a b s s' (filled part (take k ds)) →
+    TurnsDrawn b c s' s'' (λ sn. drawn part sn (get_or ds k d)) → TurnsDrawn a c s s'' (filled part (take (k + 1) ds))
+drawn_more a b c s s' s'' part ds k d l first then =
+    let done = drawn_then a b c s s' s'' (filled part (take k ds)) (λ sn. drawn part sn (get_or ds k d)) first then in
     record {
-      room = done.room;
-      drawn = λ n stands.
-          let both = done.drawn n stands in
-          let same = sym (fold_more (drawn part) (s, n) ds k d l) in
-          (both.0 ∙ ap (λ sn. sn.0) same, subst (λ sn. Stands h c sn.1) same both.1);
+      lent = done.lent;
+      drawn = record {
+        room = done.drawn.room;
+        drawn = λ n stands.
+            let both = done.drawn.drawn n stands in
+            let same = sym (fold_more (drawn part) (s, n) ds k d l) in
+            (both.0 ∙ ap (λ sn. sn.0) same, subst (λ sn. Stands (hall_of a.hall.now) (state_in c) sn.1) same both.1);
+      };
     }

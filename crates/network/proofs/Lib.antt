@@ -8,3 +8,4 @@ mod Fillings
 mod Rounds
 mod Standing
 mod Answering
+mod Turning

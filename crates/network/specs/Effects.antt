@@ -16,8 +16,7 @@ use Rattle.network.specs.declared.commands.Field.{Field}
 use Rattle.network.specs.declared.commands.Field.TheVariants.{Best, Distance, Parent, Size, Total, Number, Given}
 use Rattle.network.specs.declared.commands.Command.{Command}
 use Rattle.network.specs.declared.commands.Command.TheVariants.{Fill, SetMemory, SetWire, SetNoise, SetLamp, Do, Round, Show, Unknown}
-use Rattle.network.specs.declared.parts.Part.{Part}
-use Rattle.network.specs.declared.parts.Part.TheVariants.{Memories, Wires, Lamps}
+use Rattle.network.specs.Parts.{Part, Memories, Wires, Lamps}
 use Rattle.network.specs.Sequence.{after, telling_from, numbers_from}
 use Rattle.network.specs.Order.{doings_in, order_of}
 

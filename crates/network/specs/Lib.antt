@@ -1,8 +1,10 @@
 pub mod Words
 pub mod Slots
 pub mod Stands
+pub mod Turns
 pub mod Sequence
 pub mod Order
+pub mod Parts
 pub mod Effects
 pub mod Carried
 pub mod Laws

@@ -1,23 +1,29 @@
-// One thing in the state of a hall written, all else left as it was.
-ghost use Rattle.std.specs.Prelude.{◌≡◌, ◌+◌, ◌*◌, ◌<◌, ◌≤◌, length};
-ghost use Rattle.network.specs.Words.{reading_in};
+// One thing in a hall's lent words written, all else left as it was.
+ghost use Rattle.std.specs.Prelude.{◌≡◌, ◌*◌, ◌<◌};
 ghost use Rattle.model.specs.Nets.{remembering, laid, noted};
-ghost use Rattle.telling.specs.declared.frame.Reading.TheVariants.{Told, Noise};
 ghost use Rattle.topology.specs.Reading.{hall_of};
-ghost use Rattle.network.specs.Stands.{Roomy, Becomes};
+ghost use Rattle.network.specs.Words.{telling_in, numbers_in, reading_in};
+ghost use Rattle.network.specs.Turns.{Turns};
 
+use super::lent::Lent;
 use super::slots::slot;
-use super::state::State;
-use super::words::{put_numbers, put_telling, telling_in};
+use super::words::{numbers_in, put_numbers, put_telling, telling_in};
 use protocol::state::Numbers;
 use telling::Telling;
 use telling::frame::Reading;
-use topology::hall::Topology;
 
-impl State<'_, '_, '_, '_> {
+impl Lent<'_, '_, '_, '_, '_> {
+    // What is remembered in a slot.
+    pub(crate) fn memory(&self, slot: usize) -> Telling
+        requires { slot < 16 * (hall_of self.now.hall.now).count }
+        ensures { result ≡ telling_in self.now.memories.now slot }
+    {
+        telling_in(self.memories, slot)
+    }
+
     // What lies on the wire of a slot.
     pub(crate) fn reading(&self, slot: usize) -> Reading
-        requires { (7 * slot + 7 ≤ length self.now.wires.now) × (slot < length self.now.noise.now) }
+        requires { slot < 16 * (hall_of self.now.hall.now).count }
         ensures { result ≡ reading_in self.now.wires.now self.now.noise.now slot }
     {
         if self.noise[slot] == 0 {
@@ -27,49 +33,45 @@ impl State<'_, '_, '_, '_> {
         }
     }
 
-    // A lamp remembers this of another one, where they are wired.
-    pub(crate) fn remember(&mut self, hall: &Topology, by: u32, of: u32, said: Telling)
-        requires { Roomy (hall_of hall.now) self.old }
-        ensures { Becomes (hall_of hall.now) self.old self.new (remembering by of said) }
+    // What the lamp at a place worked out last.
+    pub(crate) fn numbers(&self, place: usize) -> Numbers
+        requires { place < (hall_of self.now.hall.now).count }
+        ensures { result ≡ numbers_in self.now.lamps.now place }
     {
-        let Some(slot) = slot(hall, by, of) else {
-            return;
-        };
-        put_telling(self.memories, slot, said);
+        numbers_in(self.lamps, place)
+    }
+
+    // A lamp remembers this of another one, where they are wired.
+    pub(crate) fn remember(&mut self, by: u32, of: u32, said: Telling)
+        ensures { Turns self.old self.new (remembering by of said) }
+    {
+        if let Some(slot) = slot(self.hall, by, of) {
+            put_telling(self.memories, slot, said);
+        }
     }
 
     // This lies on the wire from a lamp to another one, where there is one.
-    pub(crate) fn lay(&mut self, hall: &Topology, from: u32, to: u32, said: Telling)
-        requires { Roomy (hall_of hall.now) self.old }
-        ensures { Becomes (hall_of hall.now) self.old self.new (laid from to (Told said)) }
+    pub(crate) fn lay(&mut self, from: u32, to: u32, reading: Reading)
+        ensures { Turns self.old self.new (laid from to reading) }
     {
-        let Some(slot) = slot(hall, to, from) else {
-            return;
-        };
-        put_telling(self.wires, slot, said);
-        self.noise[slot] = 0;
-    }
-
-    // Noise lies on the wire from a lamp to another one, where there is one.
-    pub(crate) fn disturb(&mut self, hall: &Topology, from: u32, to: u32)
-        requires { Roomy (hall_of hall.now) self.old }
-        ensures { Becomes (hall_of hall.now) self.old self.new (laid from to Noise) }
-    {
-        let Some(slot) = slot(hall, to, from) else {
-            return;
-        };
-        self.noise[slot] = 1;
+        if let Some(slot) = slot(self.hall, to, from) {
+            match reading {
+                Reading::Told(said) => {
+                    put_telling(self.wires, slot, said);
+                    self.noise[slot] = 0;
+                }
+                Reading::Noise => self.noise[slot] = 1,
+            }
+        }
     }
 
     // A lamp has worked these numbers out, where there is that lamp.
-    pub(crate) fn note(&mut self, hall: &Topology, place: u32, numbers: Numbers)
-        requires { Roomy (hall_of hall.now) self.old }
-        ensures { Becomes (hall_of hall.now) self.old self.new (noted place numbers) }
+    pub(crate) fn note(&mut self, place: u32, numbers: Numbers)
+        ensures { Turns self.old self.new (noted place numbers) }
     {
         let place = place as usize;
-        if place >= hall.sites().len() {
-            return;
+        if place < self.hall.sites().len() {
+            put_numbers(self.lamps, place, numbers);
         }
-        put_numbers(self.lamps, place, numbers);
     }
 }

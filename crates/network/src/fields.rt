@@ -1,20 +1,16 @@
 // Single numbers, set.
-ghost use Rattle.std.specs.Prelude.{◌≡◌, ◌+◌, ◌*◌, ◌<◌, ◌≤◌, length};
+ghost use Rattle.std.specs.Prelude.{◌≡◌};
 ghost use Rattle.telling.specs.declared.frame.Reading.TheVariants.{Told};
 ghost use Rattle.model.specs.Nets.{remembering, laid, noted};
-ghost use Rattle.topology.specs.Reading.{hall_of};
-ghost use Rattle.network.specs.Words.{telling_in, numbers_in};
-ghost use Rattle.network.specs.Stands.{Roomy, Becomes};
 ghost use Rattle.network.specs.Effects.{with_field, with_number, is_of_lamp, or_zeros};
+ghost use Rattle.network.specs.Turns.{Turns};
 
 use super::commands::Field;
+use super::lent::Lent;
 use super::slots::slot;
-use super::state::State;
-use super::words::{numbers_in, telling_in};
 use protocol::state::Numbers;
 use telling::frame::Reading;
 use telling::{NOTHING, Telling};
-use topology::hall::Topology;
 
 impl Field {
     fn set_in(self, said: Telling, n: u32) -> Telling
@@ -78,54 +74,34 @@ fn or_zeros(reading: Reading) -> Telling
     }
 }
 
-impl State<'_, '_, '_, '_> {
-    fn memory(&self, slot: usize) -> Telling
-        requires { 7 * slot + 7 ≤ length self.now.memories.now }
-        ensures { result ≡ telling_in self.now.memories.now slot }
-    {
-        telling_in(self.memories, slot)
-    }
-
-    pub(crate) fn numbers(&self, place: usize) -> Numbers
-        requires { 6 * place + 6 ≤ length self.now.lamps.now }
-        ensures { result ≡ numbers_in self.now.lamps.now place }
-    {
-        numbers_in(self.lamps, place)
-    }
-
+impl Lent<'_, '_, '_, '_, '_> {
     // A number of what a lamp remembers of another one, where they are wired.
-    pub(crate) fn set_memory(&mut self, hall: &Topology, by: u32, of: u32, field: Field, n: u32)
-        requires { Roomy (hall_of hall.now) self.old }
-        ensures { Becomes (hall_of hall.now) self.old self.new (λ net. remembering by of (with_field field n (net.heard by of)) net) }
+    pub(crate) fn set_memory(&mut self, by: u32, of: u32, field: Field, n: u32)
+        ensures { Turns self.old self.new (λ net. remembering by of (with_field field n (net.heard by of)) net) }
     {
-        let Some(slot) = slot(hall, by, of) else {
-            return;
-        };
-        let said = self.memory(slot);
-        self.remember(hall, by, of, field.set_in(said, n));
+        if let Some(slot) = slot(self.hall, by, of) {
+            let said = self.memory(slot);
+            self.remember(by, of, field.set_in(said, n));
+        }
     }
 
     // A number of what lies on a wire, where there is one; noise is gone then, and zeros are all else.
-    pub(crate) fn set_wire(&mut self, hall: &Topology, from: u32, to: u32, field: Field, n: u32)
-        requires { Roomy (hall_of hall.now) self.old }
-        ensures { Becomes (hall_of hall.now) self.old self.new (λ net. laid from to (Told (with_field field n (or_zeros (net.line from to)))) net) }
+    pub(crate) fn set_wire(&mut self, from: u32, to: u32, field: Field, n: u32)
+        ensures { Turns self.old self.new (λ net. laid from to (Told (with_field field n (or_zeros (net.line from to)))) net) }
     {
-        let Some(slot) = slot(hall, to, from) else {
-            return;
-        };
-        let said = or_zeros(self.reading(slot));
-        self.lay(hall, from, to, field.set_in(said, n));
+        if let Some(slot) = slot(self.hall, to, from) {
+            let said = or_zeros(self.reading(slot));
+            self.lay(from, to, Reading::Told(field.set_in(said, n)));
+        }
     }
 
     // A number of a lamp, where there is that lamp.
-    pub(crate) fn set_lamp(&mut self, hall: &Topology, place: u32, field: Field, n: u32)
-        requires { Roomy (hall_of hall.now) self.old }
-        ensures { Becomes (hall_of hall.now) self.old self.new (λ net. noted place (with_number field n (net.lamp place)) net) }
+    pub(crate) fn set_lamp(&mut self, place: u32, field: Field, n: u32)
+        ensures { Turns self.old self.new (λ net. noted place (with_number field n (net.lamp place)) net) }
     {
-        if place as usize >= hall.sites().len() {
-            return;
+        if (place as usize) < self.hall.sites().len() {
+            let numbers = self.numbers(place as usize);
+            self.note(place, field.set_of(numbers, n));
         }
-        let numbers = self.numbers(place as usize);
-        self.note(hall, place, field.set_of(numbers, n));
     }
 }

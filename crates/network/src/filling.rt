@@ -1,51 +1,54 @@
 // Filling: all numbers of a hall are drawn.
-ghost use Rattle.topology.specs.Reading.{hall_of};
-ghost use Rattle.network.specs.Stands.{Roomy, Becomes, BecomesDrawn};
-ghost use Rattle.network.specs.Effects.{drawn, filled, all_filled};
+ghost use Rattle.network.specs.Parts.{Memories, Wires, Lamps};
+ghost use Rattle.network.specs.Effects.{filled, all_filled};
+ghost use Rattle.network.specs.Turns.{Turns, TurnsDrawn};
 
 use super::draws::Draws;
-use super::parts::Part;
-use super::state::State;
+use super::lent::Lent;
 use model::Doing;
-use topology::hall::Topology;
+use telling::frame::Reading;
 
-impl State<'_, '_, '_, '_> {
-    // What a part has for one doing is drawn.
-    fn fill_one(&mut self, hall: &Topology, part: Part, doing: Doing, draws: &mut Draws)
-        requires { Roomy (hall_of hall.now) self.old }
-        ensures { BecomesDrawn (hall_of hall.now) self.old self.new draws.old.state draws.new.state (λ sn. drawn part sn doing) }
+impl Lent<'_, '_, '_, '_, '_> {
+    // For each hearing, a telling is drawn that the one who hears remembers.
+    fn fill_memories(&mut self, doings: &[Doing], draws: &mut Draws)
+        ensures { TurnsDrawn self.old self.new draws.old.state draws.new.state (filled Memories doings.now) }
     {
-        match doing {
-            Doing::Hear(first, second) => match part {
-                Part::Memories => self.remember(hall, first, second, draws.telling()),
-                Part::Wires => self.lay(hall, first, second, draws.telling()),
-                Part::Lamps => {}
-            },
-            Doing::Work(place) => match part {
-                Part::Lamps => self.note(hall, place, draws.numbers()),
-                Part::Memories => {}
-                Part::Wires => {}
-            },
+        for doing in doings {
+            if let Doing::Hear(by, of) = *doing {
+                self.remember(by, of, draws.telling());
+            }
         }
     }
 
-    fn fill_part(&mut self, hall: &Topology, part: Part, doings: &[Doing], draws: &mut Draws)
-        requires { Roomy (hall_of hall.now) self.old }
-        ensures { BecomesDrawn (hall_of hall.now) self.old self.new draws.old.state draws.new.state (filled part doings.now) }
+    // For each hearing, a telling is drawn that lies on a wire between the two; the first place is the teller's here.
+    fn fill_wires(&mut self, doings: &[Doing], draws: &mut Draws)
+        ensures { TurnsDrawn self.old self.new draws.old.state draws.new.state (filled Wires doings.now) }
     {
         for doing in doings {
-            self.fill_one(hall, part, *doing, draws);
+            if let Doing::Hear(from, to) = *doing {
+                self.lay(from, to, Reading::Told(draws.telling()));
+            }
+        }
+    }
+
+    // For each work, the lamp's numbers are drawn.
+    fn fill_lamps(&mut self, doings: &[Doing], draws: &mut Draws)
+        ensures { TurnsDrawn self.old self.new draws.old.state draws.new.state (filled Lamps doings.now) }
+    {
+        for doing in doings {
+            if let Doing::Work(place) = *doing {
+                self.note(place, draws.numbers());
+            }
         }
     }
 
     // All numbers of memories, wires and lamps, in this order, are drawn from the sequence of a seed.
-    pub(crate) fn fill(&mut self, hall: &Topology, doings: &[Doing], seed: u32)
-        requires { Roomy (hall_of hall.now) self.old }
-        ensures { Becomes (hall_of hall.now) self.old self.new (all_filled doings.now seed) }
+    pub(crate) fn fill(&mut self, doings: &[Doing], seed: u32)
+        ensures { Turns self.old self.new (all_filled doings.now seed) }
     {
         let mut draws = Draws { state: seed };
-        self.fill_part(hall, Part::Memories, doings, &mut draws);
-        self.fill_part(hall, Part::Wires, doings, &mut draws);
-        self.fill_part(hall, Part::Lamps, doings, &mut draws);
+        self.fill_memories(doings, &mut draws);
+        self.fill_wires(doings, &mut draws);
+        self.fill_lamps(doings, &mut draws);
     }
 }

@@ -1,5 +1,5 @@
 // Where what is said between two lamps stands.
-ghost use Rattle.std.specs.Prelude.{◌≡◌, ◌≤◌, false, MatchOption};
+ghost use Rattle.std.specs.Prelude.{◌≡◌, ◌*◌, ◌<◌, ◌≤◌, false, MatchOption, IfSome};
 ghost use Rattle.model.specs.Halls.{is_wired};
 ghost use Rattle.topology.specs.Reading.{hall_of};
 ghost use Rattle.network.specs.Slots.{Slot, SiteOf};
@@ -9,7 +9,8 @@ use topology::hall::Topology;
 
 // The slot of what a lamp hears of another, where there is a wire between them.
 pub(crate) fn slot(hall: &Topology, by: u32, of: u32) -> Option<usize>
-    ensures { MatchOption result (is_wired (hall_of hall.now) by of ≡ false) (λ s. Slot (hall_of hall.now) by of s) }
+    ensures found { MatchOption result (is_wired (hall_of hall.now) by of ≡ false) (λ s. Slot (hall_of hall.now) by of s) }
+    ensures below { IfSome result (λ s. s < 16 * (hall_of hall.now).count) }
 {
     let place = by as usize;
     let wire = hall.sites().get(place)?.wire_to(of)?;

@@ -6,10 +6,10 @@ use protocol::state::Numbers;
 use telling::Telling;
 
 // So many words a telling takes.
-const TELLING: usize = 7;
+pub(crate) const TELLING: usize = 7;
 
 // And so many the numbers of a lamp.
-const NUMBERS: usize = 6;
+pub(crate) const NUMBERS: usize = 6;
 
 pub(crate) fn telling_in(words: &[u32], slot: usize) -> Telling
     requires { 7 * slot + 7 ≤ length words.now }

@@ -1,0 +1,20 @@
+use Rattle.std.proofs.Common.{get_or}
+use Rattle.model.specs.declared.Doing.TheVariants.{Work}
+use Rattle.network.specs.Parts.{Memories}
+use Rattle.network.proofs.Fillings.{memory_drawn, no_memory_drawn, drawn_more}
+use Rattle.network.proofs.lent.Lent.fill_memories.Goals as goal
+use Rattle.network.proofs.lent.Lent.fill_memories.Goals.{in-Hear, in_default}
+
+pub loop-doing-preserved : goal.loop-doing-preserved
+loop-doing-preserved c =
+    let l = c.loop-doing.self in
+    let s = c.loop-doing.draws.state in
+    let d = get_or c.args.doings.now c.loop-doing.doing-index (Work 0) in
+    drawn_more c.args.self.now l c.match-doing.self c.args.draws.now.state s c.match-doing.draws.state Memories c.args.doings.now c.loop-doing.doing-index (Work 0) c.loop-doing-test.true
+    c.loop-doing.invariant
+    (elim c.match-doing.branch [
+      | in-Hear w ↦
+          rw (w.self-is, w.draws-is)
+          (memory_drawn l w.remember.new.self s w.telling.new.self.state d w.in-Hear.by w.in-Hear.of w.telling.result w.in-Hear.is w.telling.ensures.value w.telling.ensures.next w.remember.ensures)
+      | in_default w ↦ rw (w.self-is, w.draws-is) (no_memory_drawn l s d w.in_default.field-0 w.in_default.is)
+    ])
