@@ -1,5 +1,5 @@
 -- All that is printed for a command of a script.
-use Rattle.std.specs.Prelude.{ℕ, List, [], Some, None, vec_items, Option}
+use Rattle.std.specs.Prelude.{ℕ, List, [], Some, None, Ok, Err, vec_items, Option, Result}
 use Rattle.std.specs.List.{flat_map}
 use Rattle.telling.specs.declared.refusal.Refusal.{Refusal}
 use Rattle.console.specs.Answers.{refusal_text}
@@ -37,6 +37,6 @@ shown_for t s Show = show_text t s
 shown_for t s Unknown = []
 
 -- all that is printed: the number of a refusal, else what is shown
-abbrev pub answer_text : Topology → State → Command → Option Refusal → List ℕ
-answer_text t s c (Some refusal) = refusal_text refusal
-answer_text t s c None = shown_for t s c
+abbrev pub answer_text : Topology → State → Command → Result (Unit {0}) Refusal → List ℕ
+answer_text t s c (Err refusal) = refusal_text refusal
+answer_text t s c (Ok done) = shown_for t s c

@@ -2,7 +2,6 @@
 ghost use Rattle.std.specs.Prelude.{◌≡◌, IfOk, string_bytes};
 ghost use Rattle.script.specs.Answers.{lamp_text};
 
-use console::answers::numbers_text;
 use protocol::state::Numbers;
 use std::alloc::{AllocError, Global};
 
@@ -10,6 +9,5 @@ use std::alloc::{AllocError, Global};
 pub fn lamp_text(heap: Global, place: u32, numbers: Numbers) -> Result<String, AllocError>
     ensures { IfOk result (λ t. string_bytes t ≡ lamp_text place numbers) }
 {
-    let numbers = numbers_text(heap, numbers)?;
-    format!(in heap; "{place}: {numbers}")
+    format!(in heap; "{place}: {numbers}\n")
 }

@@ -37,17 +37,17 @@ pub fn show_text(heap: Global, hall: &Topology, state: &State) -> Result<String,
     Ok(text)
 }
 
-// All that is printed for a command, by how it was refused.
+// All that is printed for a command, by whether it was refused.
 pub fn answer_text(
     heap: Global,
     hall: &Topology,
     state: &State,
     command: Command,
-    refusal: Option<Refusal>,
+    answer: Result<(), Refusal>,
 ) -> Result<String, AllocError>
-    ensures { IfOk result (λ t. string_bytes t ≡ answer_text hall.now state.now command refusal) }
+    ensures { IfOk result (λ t. string_bytes t ≡ answer_text hall.now state.now command answer) }
 {
-    if let Some(refusal) = refusal {
+    if let Err(refusal) = answer {
         return refusal_text(heap, refusal);
     }
     match command {
@@ -75,8 +75,8 @@ pub fn perform(
     ensures { OnOk result ((is_roomy (hall_of hall.now) state.old ≡ true → Becomes (hall_of hall.now) state.old state.new (performed (hall_of hall.now) hall.now.sites.items script.now))) }
 {
     for (k, command) in script.iter().enumerate() {
-        let refusal = state.carry_out(rt.alloc(), hall, *command)?;
-        rt.print(answer_text(rt.alloc(), hall, state, *command, refusal)?)?;
+        let answer = state.carry_out(rt.alloc(), hall, *command)?;
+        rt.print(answer_text(rt.alloc(), hall, state, *command, answer)?)?;
         if progress {
             report(rt, k + 1, script.len());
         }

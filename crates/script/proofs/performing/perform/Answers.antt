@@ -14,7 +14,7 @@ loop-k-preserved c = λ roomy.
     let t = c.args.hall.now in
     let before = c.loop-k.invariant roomy in
     performed_more t c.args.state.now c.loop-k.state c.carry_out.new.self c.args.script.now c.loop-k.k _ c.loop-k-test.true before
-    (c.in_ok-refusal.ensures.becomes (roomy_so (hall_of t) c.loop-k.state before.room))
+    (c.in_ok-answer.ensures.becomes (roomy_so (hall_of t) c.loop-k.state before.room))
 
 pub returns : goal.returns
 returns c = λ roomy.
