@@ -1,13 +1,15 @@
--- Places that rise, and a place put among them.
-use Rattle.std.proofs.Common.{◌≡◌, ℕ, zero, suc, ◌+◌, ◌<◌, ◌≤◌, Bool, true, false, ◌||◌, eqb, ltb, List, [], ◌∷◌, length, get_or, Err, fold, sym, refl, ap, ◌∙◌, arith}
+-- Places that rise, a place put among them, and all that are named, sorted and each once.
+use Rattle.std.proofs.Common.{◌≡◌, ℕ, zero, suc, ◌+◌, ◌<◌, ◌≤◌, Bool, true, false, ◌||◌, eqb, ltb, List, [], ◌∷◌, length, get_or, fold, sym, refl, ap, ◌∙◌, ⊎_elim, arith}
 use mathlib.Core.Bool.{or-false, or_self, or_assoc}
-use Rattle.std.specs.List.Sorted.{IsBinarySearchResult}
-use Rattle.std.specs.List.{insert}
-use Rattle.std.proofs.lemmas.List.Sorted.{searched}
-use Rattle.std.proofs.lemmas.Bool.{cond_both, ltb-true, ltb-false, eqb-true, eqb-false}
-use Rattle.protocol.specs.Rows.{has_wire}
-use Rattle.places.specs.Places.{with_place, RiseFrom, RisingAndWhole}
+use Rattle.std.specs.List.{AllPairs, Contains, dedup}
+use Rattle.std.specs.List.Sorted.{IsPermutation, IsSorted}
 use Rattle.std.specs.Ordering.{nat_cmp}
+use Rattle.std.proofs.lemmas.Bool.{both_ways, cond_both, or_cases, or_left, or_right, ltb-true, ltb-false, eqb-true, eqb-false, eq-eqb}
+use Rattle.std.proofs.lemmas.List.Kept.{AllPairs-from_increasing, Contains-dedup_nat, Contains-from_dedup}
+use Rattle.std.proofs.lemmas.List.Sorted.{Contains-permutation, IsPermutation-sym}
+use Rattle.std.proofs.lemmas.Map.Keys.{IsStrictlyIncreasing-dedup}
+use Rattle.protocol.specs.Rows.{has_wire}
+use Rattle.places.specs.Places.{with_place, rising_of, RiseFrom, RisingAndWhole}
 
 -- the three ways to put a place among those that begin with p
 with_cases :
@@ -60,56 +62,72 @@ pub rising_and_whole : RisingAndWhole
 unfolding RiseFrom has_wire
 rising_and_whole named = (all_rise named [] tt, λ place. all_among named [] place ∙ or-false (has_wire named place))
 
--- places that rise, by index
-at_least : (low : ℕ) (ps : List ℕ) (k : ℕ) → RiseFrom low ps → k < length ps → low ≤ get_or ps k 0
+-- places that rise from low have none below it
+none_below : (low : ℕ) (ps : List ℕ) (place : ℕ) → RiseFrom low ps → has_wire ps place ≡ true → low ≤ place
+unfolding RiseFrom has_wire
+none_below low [] place r w = absurd (both_ways _ refl w)
+none_below low (p ∷ ps) place r w =
+    ⊎_elim
+    (λ (here : eqb p place ≡ true). omega (arith, eqb-true p place here, r.0))
+    (λ later. omega (arith, none_below (p + 1) ps place r.1 later, r.0))
+    (or_cases _ _ w)
+
+first_among : (p : ℕ) (ps : List ℕ) → has_wire (p ∷ ps) p ≡ true
+unfolding has_wire
+first_among p ps = or_left _ _ (eq-eqb p p refl)
+
+-- lists that rise and have the same places are one
+module _ (p : ℕ) (place : ℕ) (above : p + 1 ≤ place) (qs : List ℕ) where
+  among_rest : has_wire (p ∷ qs) place ≡ true → has_wire qs place ≡ true
+  unfolding has_wire
+  among_rest w = ⊎_elim (λ (e : eqb p place ≡ true). absurd (omega (arith, eqb-true p place e))) (λ t. t) (or_cases _ _ w)
+
+rise_alike :
+    (low : ℕ) (ps qs : List ℕ) → RiseFrom low ps → RiseFrom low qs → ((place : ℕ) → has_wire ps place ≡ true → has_wire qs place ≡ true) →
+    ((place : ℕ) → has_wire qs place ≡ true → has_wire ps place ≡ true) → ps ≡ qs
+unfolding RiseFrom has_wire
+rise_alike low [] [] r s there back = refl
+rise_alike low [] (q ∷ qs) r s there back = absurd (both_ways _ refl (back q (first_among q qs)))
+rise_alike low (p ∷ ps) [] r s there back = absurd (both_ways _ refl (there p (first_among p ps)))
+rise_alike low (p ∷ ps) (q ∷ qs) r s there back =
+    let above = none_below q (q ∷ qs) p (omega arith, s.1) (there p (first_among p ps)) in
+    let below = none_below p (p ∷ ps) q (omega arith, r.1) (back q (first_among q qs)) in
+    let same : q ≡ p = omega arith in
+    let s' : RiseFrom (p + 1) qs = rw same at s.1 in
+    rw same
+    (ap (λ xs. p ∷ xs) (rise_alike (p + 1) ps qs r.1 s'
+    (λ x w. among_rest p x (none_below (p + 1) ps x r.1 w) qs (rw same at (there x (or_right _ _ w))))
+    (λ x w. among_rest p x (none_below (p + 1) qs x s' w) ps (back x (rw same (or_right _ _ w))))))
+
+-- a place is among places where it is an element of them
+among_from : (ps : List ℕ) (place : ℕ) → Contains ps place → has_wire ps place ≡ true
+unfolding has_wire
+among_from [] place c = absurd (omega (arith, c.1))
+among_from (p ∷ ps) place (zero, l, e) = or_left _ _ (eq-eqb p place e)
+among_from (p ∷ ps) place (suc k, l, e) = or_right _ _ (among_from ps place (k, omega arith, e))
+
+element_from : (ps : List ℕ) (place : ℕ) → has_wire ps place ≡ true → Contains ps place
+unfolding has_wire
+element_from [] place w = absurd (both_ways _ refl w)
+element_from (p ∷ ps) place w =
+    ⊎_elim
+    (λ here. (0, omega arith, eqb-true p place here))
+    (λ later. let c = element_from ps place later in (suc c.0, omega (arith, c.1), c.2))
+    (or_cases _ _ w)
+
+rise_from_pairs : (low : ℕ) (ps : List ℕ) → (0 < length ps → low ≤ get_or ps 0 0) → AllPairs (λ p q. p < q) ps → RiseFrom low ps
 unfolding RiseFrom
-at_least low [] k r l = absurd (omega arith)
-at_least low (p ∷ ps) zero r l = r.0
-at_least low (p ∷ ps) (suc k) r l = omega (arith, at_least (p + 1) ps k r.1 (omega arith), r.0)
+rise_from_pairs low [] first up = tt
+rise_from_pairs low (p ∷ ps) first up = (
+  first (omega arith),
+  rise_from_pairs (p + 1) ps (λ l. omega (arith, up 0 1 0 (omega arith) (omega arith))) (λ i j d l m. up (suc i) (suc j) d (omega arith) (omega arith)),
+)
 
-in_order : (low : ℕ) (ps : List ℕ) (i j : ℕ) → RiseFrom low ps → i ≤ j → j < length ps → get_or ps i 0 ≤ get_or ps j 0
-unfolding RiseFrom
-in_order low [] i j r le l = absurd (omega arith)
-in_order low (p ∷ ps) zero j r le l = at_least p (p ∷ ps) j (omega arith, r.1) l
-in_order low (p ∷ ps) (suc i) zero r le l = absurd (omega arith)
-in_order low (p ∷ ps) (suc i) (suc j) r le l = in_order (p + 1) ps i j r.1 (omega arith) (omega arith)
-
--- a place that is there
-with_same : (low : ℕ) (ps : List ℕ) (place k : ℕ) → RiseFrom low ps → k < length ps → get_or ps k 0 ≡ place → ps ≡ with_place ps place
-unfolding RiseFrom
-with_same low [] place k r l e = absurd (omega arith)
-with_same low (p ∷ ps) place zero r l e =
-    with_cases p ps place (λ xs. p ∷ ps ≡ xs) (λ below. absurd (omega arith)) (λ same. refl) (λ above. absurd (omega arith))
-with_same low (p ∷ ps) place (suc k) r l e =
-    let high = at_least (p + 1) ps k r.1 (omega arith) in
-    with_cases p ps place (λ xs. p ∷ ps ≡ xs)
-    (λ below. absurd (omega arith))
-    (λ same. absurd (omega arith))
-    (λ above. ap (λ xs. p ∷ xs) (with_same (p + 1) ps place k r.1 (omega arith) e))
-
--- a place that is not there, and goes in at i
-with_new :
-    (ps : List ℕ) (place i : ℕ) → i ≤ length ps → ((k : ℕ) → k < i → get_or ps k 0 < place) →
-    ((k : ℕ) → i ≤ k → k < length ps → place < get_or ps k 0) → insert ps i place ≡ with_place ps place
-unfolding with_place
-with_new [] place zero l low high = refl
-with_new [] place (suc i) l low high = absurd (omega arith)
-with_new (p ∷ ps) place zero l low high =
-    let h = high 0 (omega arith) (omega arith) in
-    with_cases p ps place (λ xs. place ∷ p ∷ ps ≡ xs) (λ below. refl) (λ same. absurd (omega arith)) (λ above. absurd (omega arith))
-with_new (p ∷ ps) place (suc i) l low high =
-    let h = low 0 (omega arith) in
-    with_cases p ps place (λ xs. p ∷ insert ps i place ≡ xs)
-    (λ below. absurd (omega arith))
-    (λ same. absurd (omega arith))
-    (λ above. ap (λ xs. p ∷ xs) (with_new ps place i (omega arith) (λ k b. low (suc k) (omega arith)) (λ k a b. high (suc k) (omega arith) (omega arith))))
-
--- what a search says of rising places ps, which are lent as ys
-module _ (ps ys : List ℕ) (place : ℕ) (lent : ys ≡ ps) (r : RiseFrom 0 ps) (i : ℕ) where
-  pub put_same : i < length ys → get_or ys i 0 ≡ place → ps ≡ with_place ps place
-  put_same l e = with_same 0 ps place i r (rw lent at l) (rw lent at e)
-
-  pub put_new : IsBinarySearchResult (λ y. nat_cmp y place) ys (Err i) → insert ps i place ≡ with_place ps place
-  put_new h =
-      let s = searched ps place (Err i) (rw lent at h) (λ j k le l. in_order 0 ps j k r le l) in
-      with_new ps place i s.0 s.1 s.2
+-- the places that are named, sorted, and each once
+pub sorted_once : (named sorted : List ℕ) → IsPermutation named sorted → IsSorted nat_cmp sorted → dedup eqb sorted ≡ rising_of named
+sorted_once named sorted moved up =
+    let whole = rising_and_whole named in
+    let rise = rise_from_pairs 0 (dedup eqb sorted) (λ _. omega arith) (AllPairs-from_increasing _ (IsStrictlyIncreasing-dedup sorted up)) in
+    rise_alike 0 (dedup eqb sorted) (rising_of named) rise whole.0
+    (λ x w. whole.1 x ∙ among_from named x (Contains-permutation _ _ x (IsPermutation-sym _ _ moved) (Contains-from_dedup eqb sorted x (element_from _ x w))))
+    (λ x w. among_from _ x (Contains-dedup_nat sorted x (Contains-permutation _ _ x moved (element_from named x (sym (whole.1 x) ∙ w)))))

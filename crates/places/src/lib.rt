@@ -1,8 +1,8 @@
 // Places that are named in any order, once or more often, as those that a lamp is wired to.
 #![tactic(auto)]
 
-ghost use Rattle.std.specs.Prelude.{◌≡◌, IfOk, OnOk};
-ghost use Rattle.places.specs.Places.{with_place, rising_of, RiseFrom, RisingAndWhole};
+ghost use Rattle.std.specs.Prelude.{◌≡◌, IfOk};
+ghost use Rattle.places.specs.Places.{rising_of, RisingAndWhole};
 
 use std::alloc::{AllocError, Global};
 
@@ -10,25 +10,10 @@ use std::alloc::{AllocError, Global};
 pub fn rising(heap: Global, named: &[u32]) -> Result<Vec<u32>, AllocError>
     ensures { IfOk result (λ places. places.items ≡ rising_of named.now) }
 {
-    let mut places = Vec::new(heap);
-    for place in named {
-        put(&mut places, *place)?;
-    }
+    let mut places = named.to_vec(heap)?;
+    places.sort_unstable();
+    places.dedup();
     Ok(places)
-}
-
-// Puts a place among rising ones, unless it is there.
-fn put(places: &mut Vec<u32>, place: u32) -> Result<(), AllocError>
-    requires { RiseFrom 0 places.old.items }
-    ensures { OnOk result (places.new.items ≡ with_place places.old.items place) }
-{
-    match places.as_slice().binary_search(&place) {
-        Ok(_) => Ok(()),
-        Err(i) => {
-            places.insert(i, place)?;
-            Ok(())
-        }
-    }
 }
 
 // The places of a site rise, and are those that were named and no others.

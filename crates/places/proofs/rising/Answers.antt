@@ -1,18 +1,10 @@
-use Rattle.std.proofs.Common.{[], get_or, take, sym, ap, ◌∙◌, subst}
-use Rattle.std.proofs.lemmas.List.{take_all}
-use Rattle.std.proofs.lemmas.List.Sums.{fold_more}
-use Rattle.places.specs.Places.{with_place, rising_of, RiseFrom}
-use Rattle.places.proofs.Named.{rising_and_whole}
+use Rattle.std.proofs.Common.{◌∙◌}
+use Rattle.std.proofs.lemmas.List.Filters.{dedup_is}
+use Rattle.places.proofs.Named.{sorted_once}
 use Rattle.places.proofs.rising.Goals as goal
 
-pub put-requires : goal.put-requires
-put-requires c =
-    subst (RiseFrom 0) (sym c.loop-place.invariant) (rising_and_whole (take c.loop-place.place-index c.args.named.now)).0
-
-pub loop-place-preserved : goal.loop-place-preserved
-loop-place-preserved c =
-    c.in_ok-put.ensures ∙ ap (λ ps. with_place ps (get_or c.args.named.now c.loop-place.place-index 0)) c.loop-place.invariant
-    ∙ sym (fold_more with_place [] c.args.named.now c.loop-place.place-index 0 c.loop-place-test.true)
-
 pub returns : goal.returns
-returns c = c.loop-place.invariant ∙ ap rising_of (take_all c.loop-place.place-index c.args.named.now c.loop-place-test.false)
+returns c =
+    let named = c.in_ok-places.ensures.items_if_clones_equal (λ x y e. e) in
+    let moved = rw named at c.sort_unstable.ensures.permutation in
+    dedup_is _ _ _ c.dedup.ensures.filtered ∙ sorted_once _ _ moved c.sort_unstable.ensures.sorted
