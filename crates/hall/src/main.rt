@@ -11,7 +11,7 @@ use std::io::{IsTerminal, Read};
 use std::process::ExitCode;
 use std::{env, fs, io};
 use telling::refusal::Refusal;
-use topology::fault::{Fault, Reason, Refused};
+use topology::fault::{Fault, Refused};
 use topology::hall::Topology;
 
 const USAGE: &str = "hall takes FILE, or --progress FILE";
@@ -67,17 +67,8 @@ fn explain(rt: &HostRuntime, stop: &Stop) -> io::Result<()> {
     let number = Refusal::Input.number();
     match stop {
         Stop::Arguments => eprintln!(rt; "{number} {USAGE}"),
-        Stop::Hall(refused) => explain_hall(rt, *refused),
+        Stop::Hall(refused) => eprintln!(rt; "{number} {refused}"),
         Stop::Failed(error) => eprintln!(rt; "hall: {error}"),
-    }
-}
-
-fn explain_hall(rt: &HostRuntime, refused: Refused) -> io::Result<()> {
-    let number = Refusal::Input.number();
-    let reason = refused.reason.text();
-    match refused.line {
-        Some(line) => eprintln!(rt; "{number} line {line}: {reason}"),
-        None => eprintln!(rt; "{number} {reason}"),
     }
 }
 

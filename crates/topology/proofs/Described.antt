@@ -1,7 +1,7 @@
 -- What holds of every hall that lines describe.
 use Rattle.std.proofs.Common.{◌≡◌, ℕ, zero, suc, ◌<◌, ◌≤◌, Bool, true, false, List, [], length, get_or, vec_items, MatchBool, sym, ap, ◌∙◌, subst, ⊎_elim, arith}
-use Rattle.std.specs.List.{AllByRecursion}
-use Rattle.std.proofs.ByRecursion.{All-weaker}
+use Rattle.std.specs.List.{All}
+use Rattle.std.proofs.lemmas.List.Elements.{All-weaker}
 use Rattle.std.proofs.lemmas.List.{get_or-map}
 use Rattle.std.proofs.lemmas.Bool.{and_parts, leb-true, cases_order}
 use Rattle.protocol.specs.declared.facts.Own.{Own}
@@ -58,7 +58,7 @@ module _ {lines : List Line} {h : Hall} (d : Describes lines h) where
           apart = λ a b p. let e = s.names a b (omega (arith, d.count), omega (arith, d.count), d.names a (omega (arith, d.count)) ∙ p.2 ∙ sym (d.names b (omega (arith, d.count)))) in omega arith;
         }
 
-    pub sound_right : AllByRecursion (RightEnds h.count) lines
+    pub sound_right : All (RightEnds h.count) lines
     sound_right =
         ends_right h.count lines d.ends
         (λ i l e. rises_apart (own_of h i) 0 (h.neighbours i) (and_parts _ _ (s.sites i l)).1 (wired_at i i l ∙ e))
@@ -93,8 +93,8 @@ module _ {lines : List Line} {most : ℕ} (headed : Headed lines most) where
     pub breaks_named : (Named most names → ⊥) → Breaks lines
     breaks_named fails h d s = fails (rw (all, sym (same_most d)) (sound_named d s))
 
-    pub breaks_right : (AllByRecursion (RightEnds (length names)) lines → ⊥) → Breaks lines
-    breaks_right fails h d s = fails (subst (λ n. AllByRecursion (RightEnds n) lines) (d.count ∙ ap length (sym all)) (sound_right d s))
+    pub breaks_right : (All (RightEnds (length names)) lines → ⊥) → Breaks lines
+    breaks_right fails h d s = fails (subst (λ n. All (RightEnds n) lines) (d.count ∙ ap length (sym all)) (sound_right d s))
 
     pub breaks_sites : (AllSound most names lines → ⊥) → Breaks lines
     breaks_sites fails h d s = fails (rw (all, sym (same_most d)) (sound_sites d s))
@@ -135,7 +135,7 @@ module _ {lines : List Line} {most : ℕ} {names : List ℕ} {sites : List Site}
             get_or-map (λ s. s.own.name) sites i d 0 l ∙ ap (λ own. own.name) (stands.each i d (omega (arith, stands.count))).0 ∙ ap (λ ns. get_or ns i 0) checked.all;
         wires = λ i l. get_or-map places_of sites i d [] l ∙ (stands.each i d (omega (arith, stands.count))).1;
         ends = All-weaker (RightEnds (length sites)) (EndsBelow (length sites)) (right_below (length sites)) lines
-            (subst (λ n. AllByRecursion (RightEnds n) lines) (sym stands.count) checked.right);
+            (subst (λ n. All (RightEnds n) lines) (sym stands.count) checked.right);
       }
 
   pub stands_differ : NamesDiffer (hall_in most sites)

@@ -1,7 +1,8 @@
 -- The ends of wires that lines name.
 use Rattle.std.proofs.Common.{◌≡◌, ℕ, ◌+◌, ◌<◌, Bool, true, false, cond, ◌&&◌, ◌||◌, eqb, List, [], ◌∷◌, ◌++◌, sym, refl, ap, ◌∙◌, ⊎_elim, arith}
 use mathlib.Core.Bool.{and_comm, or_comm, or_assoc, or-false}
-use Rattle.std.specs.List.{AllByRecursion}
+use Rattle.std.specs.List.{All}
+use Rattle.std.proofs.lemmas.List.Elements.{All-nil, All-cons, All-head, All-tail}
 use Rattle.std.proofs.lemmas.Bool.{and_parts, and_from, or_cases, or_left, or_right, not-true, both_ways, eqb-true, eq-eqb}
 use Rattle.protocol.specs.declared.facts.Own.{Own}
 use Rattle.protocol.specs.Rows.{has_wire}
@@ -59,11 +60,11 @@ module _ (count : ℕ) where
   line_below i j Unknown p e = absurd (both_ways _ refl e)
 
   -- no wire leads to a place beyond
-  pub ends_below : (i j : ℕ) (lines : List Line) → AllByRecursion (EndsBelow count) lines → has_wire (ends_at i lines) j ≡ true → j < count
+  pub ends_below : (i j : ℕ) (lines : List Line) → All (EndsBelow count) lines → has_wire (ends_at i lines) j ≡ true → j < count
   unfolding has_wire
   ends_below i j [] p e = absurd (both_ways _ refl e)
   ends_below i j (l ∷ ls) p e =
-      ⊎_elim (line_below i j l p.0) (ends_below i j ls p.1) (or_cases _ _ (sym (has_append (ends_of i l) (ends_at i ls) j) ∙ e))
+      ⊎_elim (line_below i j l (All-head (EndsBelow count) l ls p)) (ends_below i j ls (All-tail (EndsBelow count) l ls p)) (or_cases _ _ (sym (has_append (ends_of i l) (ends_at i ls) j) ∙ e))
 
   line_right : (line : Line) → EndsBelow count line → ((i : ℕ) → i < count → has_wire (ends_of i line) i ≡ true → ⊥) → RightEnds count line
   line_right (Most m) p apart = tt
@@ -77,12 +78,12 @@ module _ (count : ℕ) where
 
   -- where no lamp is wired to itself, each wire has its ends at two places
   pub ends_right :
-      (lines : List Line) → AllByRecursion (EndsBelow count) lines → ((i : ℕ) → i < count → has_wire (ends_at i lines) i ≡ true → ⊥) → AllByRecursion (RightEnds count) lines
-  ends_right [] p apart = tt
-  ends_right (l ∷ ls) p apart = (
-    line_right l p.0 (λ i h e. apart i h (has_append (ends_of i l) (ends_at i ls) i ∙ or_left _ _ e)),
-    ends_right ls p.1 (λ i h e. apart i h (has_append (ends_of i l) (ends_at i ls) i ∙ or_right _ _ e)),
-  )
+      (lines : List Line) → All (EndsBelow count) lines → ((i : ℕ) → i < count → has_wire (ends_at i lines) i ≡ true → ⊥) → All (RightEnds count) lines
+  ends_right [] p apart = All-nil (RightEnds count)
+  ends_right (l ∷ ls) p apart =
+      All-cons (RightEnds count) l ls
+      (line_right l (All-head (EndsBelow count) l ls p) (λ i h e. apart i h (has_append (ends_of i l) (ends_at i ls) i ∙ or_left _ _ e)))
+      (ends_right ls (All-tail (EndsBelow count) l ls p) (λ i h e. apart i h (has_append (ends_of i l) (ends_at i ls) i ∙ or_right _ _ e)))
 
   pub right_below : (line : Line) → RightEnds count line → EndsBelow count line
   right_below (Most m) p = tt

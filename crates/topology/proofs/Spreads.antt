@@ -1,8 +1,10 @@
 -- A pass that reaches lamps whose neighbours are reached.
-use Rattle.std.proofs.Common.{◌≡◌, ℕ, zero, suc, ◌+◌, ◌<◌, ◌≤◌, Bool, true, false, cond, not, ◌&&◌, ◌||◌, eqb, ◌⊎◌, List, [], ◌∷◌, length, get_or, drop, set, replicate, sym, refl, ap, ◌∙◌, subst, ⊎_elim, arith, below_more}
+use Rattle.std.proofs.Common.{◌≡◌, ℕ, zero, suc, ◌+◌, ◌<◌, ◌≤◌, Bool, true, false, cond, not, ◌&&◌, ◌||◌, eqb, List, [], ◌∷◌, length, get_or, set, replicate, sym, refl, ap, ◌∙◌, subst, ⊎_elim, arith, below_more}
 use Rattle.std.proofs.Math.Bool.{beq}
-use Rattle.std.specs.List.{IsAnyAnswer}
-use Rattle.std.proofs.lemmas.List.{at_drop_more, at_drop_all, get_or_read, get_or-map, get_or-set_same, get_or-set_other, length-set, length-replicate, get_or-replicate, get_or_past}
+use mathlib.Core.Bool.{or-true, or-false}
+use Rattle.std.specs.List.{IsAnyAnswer, list_any}
+use Rattle.std.proofs.lemmas.List.Recursion.{same_from_clauses}
+use Rattle.std.proofs.lemmas.List.{get_or_read, get_or-map, get_or-set_same, get_or-set_other, length-set, length-replicate, get_or-replicate, get_or_past}
 use Rattle.std.proofs.lemmas.List.Sums.{sum_by-set}
 use Rattle.std.proofs.lemmas.Bool.{or_cases, or_left, or_right, eqb-true, eq-eqb, and_parts, not-true, cases_eq, cases_lt, cases_Bool, both_ways}
 use Rattle.protocol.specs.declared.facts.Site.{Site}
@@ -33,20 +35,9 @@ module _ (test : ℕ → Bool) where
       (λ f. or_right _ _ (any_from ps p f t))
       (or_cases (eqb q p) (has_wire ps p) e)
 
-  module _ (ps : List ℕ) (i : ℕ) (all : Bool) (e : all ≡ any_of test (drop i ps)) where
-    any_step : i < length ps → all ≡ (test (get_or ps i 0) || any_of test (drop (i + 1) ps))
-    unfolding any_of
-    any_step l = e ∙ at_drop_more (any_of test) ps i 0 l
-
-    pub any_here : i < length ps → test (get_or ps i 0) ≡ true → true ≡ all
-    any_here l t = sym (any_step l ∙ ap (λ b. b || any_of test (drop (i + 1) ps)) t)
-
-    pub any_on : i < length ps → test (get_or ps i 0) ≡ false → all ≡ any_of test (drop (i + 1) ps)
-    any_on l t = any_step l ∙ ap (λ b. b || any_of test (drop (i + 1) ps)) t
-
-    pub any_end : length ps ≤ i → false ≡ all
-    unfolding any_of
-    any_end l = sym (e ∙ at_drop_all (any_of test) ps i l)
+  pub any_is : (ps : List ℕ) → list_any test ps ≡ any_of test ps
+  unfolding any_of
+  any_is = same_from_clauses (list_any test) (any_of test) (λ p any. test p || any) refl (λ _ _. refl) (λ _ _. refl)
 
 none_yet : (n i : ℕ) → get_or (replicate n false) i false ≡ false
 none_yet n i =
@@ -133,13 +124,9 @@ module _ (sites : List Site) where
 
       pub spread_more :
           (next : Bool) (after : List Bool) (more : Bool) → next ≡ is_next reached site i → after ≡ with_next reached i next →
-          ((next ≡ true) × (more ≡ true)) ⊎ ((next ≡ false) × (more ≡ grew)) → Spread sites (i + 1) before after more
-      spread_more true after more e a w =
-          let on : more ≡ true = ⊎_elim (λ p. p.1) (λ p. absurd (both_ways _ p.0 refl)) w in
-          rw (a, on) (spread_next (sym e))
-      spread_more false after more e a w =
-          let same : more ≡ grew = ⊎_elim (λ p. absurd (both_ways _ refl p.0)) (λ p. p.1) w in
-          rw (a, same) (spread_on (sym e))
+          more ≡ (grew || next) → Spread sites (i + 1) before after more
+      spread_more true after more e a w = rw (a, w ∙ or-true grew) (spread_next (sym e))
+      spread_more false after more e a w = rw (a, w ∙ or-false grew) (spread_on (sym e))
 
   pub spread_none : (reached : List Bool) → Spread sites 0 reached reached false
   spread_none reached =

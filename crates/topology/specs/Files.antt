@@ -1,6 +1,6 @@
 -- What the lines of a hall file say.
 use Rattle.std.specs.Prelude.{◌≡◌, ℕ, ◌-◌, ◌<◌, ◌≤◌, Bool, true, false, cond, not, List, [], ◌∷◌, ◌++◌, length, Some, None, Option, ◌==◌, slice_index, slice_index_or}
-use Rattle.std.specs.List.{flat_map, AllByRecursion}
+use Rattle.std.specs.List.{flat_map, All}
 use Rattle.places.specs.Places.{rising_of}
 use Rattle.model.specs.Halls.{Hall, Sound}
 use Rattle.topology.specs.declared.lines.Line.{Line}
@@ -74,7 +74,7 @@ pub record Describes (lines : List Line) (h : Hall) : Type 0 where
   pub count : h.count ≡ length (names_in lines)
   pub names : (i : ℕ) → i < h.count → h.name i ≡ slice_index (names_in lines) i
   pub wires : (i : ℕ) → i < h.count → h.neighbours i ≡ places_at i lines
-  pub ends : AllByRecursion (EndsBelow h.count) lines
+  pub ends : All (EndsBelow h.count) lines
 
 -- lines that break a rule: no hall that they describe is sound
 abbrev pub Breaks : List Line → Type 0

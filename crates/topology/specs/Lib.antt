@@ -3,3 +3,4 @@ pub mod Files
 pub mod Checks
 pub mod Reach
 pub mod Reading
+pub mod Reasons

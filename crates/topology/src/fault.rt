@@ -1,10 +1,8 @@
 // Why there is no topology.
-ghost use Rattle.std.specs.Prelude.{◌≡◌};
-ghost use Rattle.topology.specs.declared.fault.Fault.TheVariants as fault;
-
 use std::alloc::AllocError;
+use std::fmt;
 
-#[derive(Clone, Copy)]
+#[derive(Clone, Copy, PartialEq, Eq, Debug)]
 pub enum Reason {
     // not what may stand there
     Misplaced,
@@ -25,10 +23,14 @@ pub enum Reason {
     NotJoined,
 }
 
-impl Reason {
-    // In plain words. No contract: a test compares them.
-    pub fn text(self) -> &'static str {
-        match self {
+impl fmt::Display for Reason {
+    ghost use Rattle.std.specs.Prelude.{Some};
+    ghost use Rattle.topology.specs.Reasons.{reason_text};
+
+    ghost output = { λ reason. Some (reason_text reason) };
+
+    fn fmt<W: fmt::Write>(&self, f: &mut fmt::Formatter<W>) -> fmt::Result {
+        f.write_str(match self {
             Reason::Misplaced => "a line that may not stand here",
             Reason::Most => "the most lamps are none, or above 1024",
             Reason::NoLamps => "no lamps",
@@ -38,12 +40,12 @@ impl Reason {
             Reason::ToItself => "a lamp wired to itself",
             Reason::TooManyWires => "a lamp with more than 16 neighbours",
             Reason::NotJoined => "lamps that do not hang together",
-        }
+        })
     }
 }
 
 // What is wrong, and on which line, counted from 1, where it is one line's fault.
-#[derive(Clone, Copy)]
+#[derive(Clone, Copy, PartialEq, Eq, Debug)]
 pub struct Refused {
     pub line: Option<usize>,
     pub reason: Reason,
@@ -62,6 +64,20 @@ impl Refused {
     }
 }
 
+impl fmt::Display for Refused {
+    ghost use Rattle.std.specs.Prelude.{Some};
+    ghost use Rattle.topology.specs.Reasons.{refused_text};
+
+    ghost output = { λ refused. Some (refused_text refused) };
+
+    fn fmt<W: fmt::Write>(&self, f: &mut fmt::Formatter<W>) -> fmt::Result {
+        match self.line {
+            Some(line) => write!(f, "line {line}: {}", self.reason),
+            None => write!(f, "{}", self.reason),
+        }
+    }
+}
+
 #[derive(Clone, Copy)]
 pub enum Fault {
     OutOfMemory,
@@ -69,7 +85,10 @@ pub enum Fault {
 }
 
 impl From<AllocError> for Fault {
-    ghost from_gives = { λ _ r. r ≡ fault.OutOfMemory };
+    ghost use Rattle.std.specs.Prelude.{◌≡◌};
+    ghost use Rattle.topology.specs.declared.fault.Fault.TheVariants.{OutOfMemory};
+
+    ghost from_gives = { λ _ fault. fault ≡ OutOfMemory };
 
     fn from(_e: AllocError) -> Fault {
         Fault::OutOfMemory
@@ -77,6 +96,9 @@ impl From<AllocError> for Fault {
 }
 
 impl From<Refused> for Fault {
+    ghost use Rattle.std.specs.Prelude.{◌≡◌};
+    ghost use Rattle.topology.specs.declared.fault.Fault.TheVariants as fault;
+
     ghost from_gives = { λ refused r. r ≡ fault.Refused refused };
 
     fn from(refused: Refused) -> Fault {

@@ -5,8 +5,8 @@ mod checks;
 pub mod fault;
 pub mod hall;
 pub mod lines;
+mod plan;
 mod reach;
 pub mod reading;
-mod sites;
 #[cfg(test)]
 mod tests;

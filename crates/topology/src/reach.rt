@@ -1,5 +1,5 @@
 // Whether lamps hang together: who is reached from the first one.
-ghost use Rattle.std.specs.Prelude.{◌≡◌, ◌<◌, ◌≤◌, false, length, replicate, IfOk};
+ghost use Rattle.std.specs.Prelude.{◌≡◌, ◌<◌, ◌≤◌, length, IfOk};
 ghost use Rattle.model.specs.Halls.{WiresWithin, WiredBothWays};
 ghost use Rattle.topology.specs.Lamps.{hall_in};
 ghost use Rattle.topology.specs.Reach.{touches, is_next, with_next, Spread, WhetherJoined};
@@ -11,13 +11,7 @@ use std::alloc::{AllocError, Global};
 fn touches(site: &Site, reached: &[bool]) -> bool
     ensures { result ≡ touches site.now reached.now }
 {
-    for place in site.places() {
-        let place = *place as usize;
-        if place < reached.len() && reached[place] {
-            return true;
-        }
-    }
-    false
+    site.places().iter().any(|place| reached.get(*place as usize).copied().unwrap_or(false))
 }
 
 // Reaches the lamp at a place if a neighbour is reached. Whether it was not before.
@@ -40,24 +34,9 @@ fn spread(sites: &[Site], reached: &mut [bool]) -> bool
 {
     let mut grew = false;
     for (place, site) in sites.iter().enumerate() {
-        if reach(site, place, reached) {
-            grew = true;
-        }
+        grew |= reach(site, place, reached);
     }
     grew
-}
-
-// Whether all lamps are reached from the first one, where none is reached yet.
-fn reaches_all(sites: &[Site], reached: &mut [bool]) -> bool
-    requires some { 1 ≤ length sites.now }
-    requires none { reached.old ≡ replicate (length sites.now) false }
-    requires within { WiresWithin (hall_in 0 sites.now) }
-    requires both { WiredBothWays (hall_in 0 sites.now) }
-    ensures { WhetherJoined sites.now result }
-{
-    reached[0] = true;
-    while spread(sites, reached) {}
-    !reached.contains(&false)
 }
 
 // Whether there is a way from each lamp to each other one.
@@ -68,5 +47,8 @@ pub(crate) fn hang_together(heap: Global, sites: &[Site]) -> Result<bool, AllocE
     ensures { IfOk result (WhetherJoined sites.now) }
 {
     let mut reached = vec![in heap; false; sites.len()]?;
-    Ok(reaches_all(sites, reached.as_mut_slice()))
+    let reached = reached.as_mut_slice();
+    reached[0] = true;
+    while spread(sites, reached) {}
+    Ok(!reached.contains(&false))
 }

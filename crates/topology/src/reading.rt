@@ -1,14 +1,13 @@
 // The topology that lines describe, or why they describe none.
 ghost use Rattle.std.specs.Prelude.{◌≡◌};
-ghost use Rattle.topology.specs.Checks.{Checked};
 ghost use Rattle.topology.specs.Reading.{ReadAs, AcceptedIsSound};
 
 use super::checks::{check_names, check_order, check_wires};
 use super::fault::{Fault, Reason, Refused};
 use super::hall::Topology;
 use super::lines::Line;
+use super::plan::{Plan, names_in};
 use super::reach::hang_together;
-use super::sites::{names_in, sites_of};
 use protocol::facts::Site;
 use std::alloc::Global;
 
@@ -22,20 +21,22 @@ impl Topology {
         let names = all.as_slice();
         check_names(most, names)?;
         check_wires(names.len(), lines)?;
-        Topology::build(heap, most, names, lines)
+        Topology::build(heap, &Plan { most, names, lines })
     }
 
-    fn build(heap: Global, most: u32, names: &[u32], lines: &[Line]) -> Result<Topology, Fault>
-        requires { Checked lines.now most names.now }
-        ensures { ReadAs lines.now result }
+    fn build(heap: Global, plan: &Plan) -> Result<Topology, Fault>
+        ensures { ReadAs plan.now.lines.now result }
     {
-        let Some(sites) = sites_of(heap, most, names, lines)? else {
+        let Some(sites) = plan.sites(heap)? else {
             return Err(Fault::Refused(Refused::of_all(Reason::TooManyWires)));
         };
         if !hang_together(heap, sites.as_slice())? {
             return Err(Fault::Refused(Refused::of_all(Reason::NotJoined)));
         }
-        Ok(Topology { most, sites })
+        Ok(Topology {
+            most: plan.most,
+            sites,
+        })
     }
 
     // The lamps, in order of places.

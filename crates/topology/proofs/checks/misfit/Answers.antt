@@ -1,11 +1,12 @@
-use Rattle.std.proofs.Common.{sym, ◌∙◌}
-use Rattle.topology.proofs.Loops.{fit_more, fit_stop}
+use Rattle.std.proofs.Common.{rules, arith, true, false}
+use Rattle.std.proofs.lemmas.Grind.{common_steps}
+use borrow.Author.Tests.{tests}
+use Rattle.std.proofs.lemmas.Iterator.{IsFirst-from_position}
+use Rattle.topology.proofs.Pairs.{Pair, YieldsList-from_windows, neighbours_fit}
 use Rattle.topology.proofs.checks.misfit.Goals as goal
 
-pub returns-then-not-fits : goal.returns-then-not-fits
-returns-then-not-fits c =
-    fit_stop c.args.lines.now c.loop-i.i _ c.loop-i.auto.i c.loop-i-test.true c.loop-i.invariant (sym c.fits.ensures ∙ c.if-not-fits.true)
-
-pub loop-i-preserved : goal.loop-i-preserved
-loop-i-preserved c =
-    fit_more c.args.lines.now c.loop-i.i _ c.loop-i.auto.i c.loop-i-test.true c.loop-i.invariant (sym c.fits.ensures ∙ c.if-not-fits.false)
+pub returns : goal.returns
+returns c =
+    neighbours_fit c.args.lines.now c.position.result (
+    IsFirst-from_position _ _ c.position.result (Pair false) (Pair true) c.position.ensures.ran (YieldsList-from_windows _ c.args.lines.now c.windows.ensures.rest c.windows.ensures.size) (λ x q k d l. grind (arith, common_steps)) (λ x q k. (search (rules, tests), λ d l. grind (arith, common_steps)))
+    )

@@ -1,18 +1,17 @@
-use Rattle.std.proofs.Common.{◌≡◌, length, ◌∙◌, subst, inl, inr, arith}
+use Rattle.std.proofs.Common.{◌≡◌, length, refl, ◌∙◌, subst, arith}
 use Rattle.topology.specs.Reach.{Spread}
 use Rattle.topology.proofs.Spreads.{spread_none, spread_more}
 use Rattle.topology.proofs.reach.spread.Goals as goal
-use Rattle.topology.proofs.reach.spread.Goals.{then-reach, else-reach}
 
 pub loop-place-init : goal.loop-place-init
 loop-place-init c = spread_none c.args.sites.now c.args.reached.now
 
 pub loop-place-preserved : goal.loop-place-preserved
 loop-place-preserved c =
+    let r = c.reach-grew.ensures in
     spread_more c.args.sites.now c.args.reached.now c.loop-place.reached c.loop-place.grew c.loop-place.place c.loop-place.invariant
     c.index-sites-place.result c.loop-place-test.true (c.loop-place.invariant.long ∙ c.requires) c.index-sites-place.is
-    c.reach.result c.reach.new.reached c.if-reach.grew c.reach.ensures.next c.reach.ensures.after
-    (elim c.if-reach.branch [ then-reach w ↦ inl (w.if-reach.true, w.grew-is) | else-reach w ↦ inr (w.if-reach.false, w.grew-is) ])
+    c.reach-grew.result c.reach-grew.new.reached _ r.next r.after refl
 
 pub returns : goal.returns
 returns c =

@@ -1,21 +1,16 @@
-use Rattle.std.proofs.Common.{false}
-use Rattle.std.proofs.lemmas.List.{get_or_past}
+use Rattle.std.proofs.Common.{rules, false, ◌∙◌, ap}
+use borrow.Author.Tests.{tests}
+use Rattle.std.proofs.lemmas.Option.{unwrap_or-slice_get}
+use Rattle.std.proofs.lemmas.Iterator.{YieldsList-from_slice}
+use Rattle.std.proofs.lemmas.Iterator.Search.{any_from_yields_List}
+use Rattle.model.specs.Assignment.{any_of}
 use Rattle.topology.specs.Reach.{is_reached}
-use Rattle.topology.proofs.Spreads.{any_here, any_on, any_end}
+use Rattle.topology.proofs.Spreads.{any_is}
 use Rattle.topology.proofs.reach.touches.Goals as goal
-use Rattle.topology.proofs.reach.touches.Goals.{else-place-reached-via-then-place-reached+else-reached-place, else-place-reached-via-else-place-reached}
-
-pub returns-then-reached-place : goal.returns-then-reached-place
-returns-then-reached-place c =
-    any_here (is_reached c.args.reached.now) _ c.loop-place.place-index _ c.loop-place.invariant c.loop-place-test.true c.if-reached-place.true
-
-pub loop-place-preserved : goal.loop-place-preserved
-loop-place-preserved c =
-    any_on (is_reached c.args.reached.now) _ c.loop-place.place-index _ c.loop-place.invariant c.loop-place-test.true
-    (elim c.else-place-reached.branch [
-      | else-place-reached-via-then-place-reached+else-reached-place w ↦ w.if-reached-place.false
-      | else-place-reached-via-else-place-reached w ↦ get_or_past c.args.reached.now _ false w.if-place-reached.false
-    ])
 
 pub returns : goal.returns
-returns c = any_end (is_reached c.args.reached.now) _ c.loop-place.place-index _ c.loop-place.invariant c.loop-place-test.false
+returns c =
+    any_from_yields_List (is_reached c.args.reached.now) _ _ _ c.any.ensures.ran (YieldsList-from_slice c.places.result.now cc)
+    (λ x b q k. let e = unwrap_or-slice_get c.args.reached.now x.now false in search (rules, tests))
+    ∙ any_is (is_reached c.args.reached.now) c.places.result.now
+    ∙ ap (any_of (is_reached c.args.reached.now)) c.places.ensures

@@ -21,12 +21,3 @@ returns-in_err-check_wires c =
     rw (p.1, p.2) (
     breaks_right c.in_ok-most.ensures (c.as_slice-names.ensures.value ∙ c.in_ok-all.ensures) c.in_err-check_wires.ensures
     )
-
-pub build-requires : goal.build-requires
-build-requires c =
-    record {
-      headed = c.in_ok-most.ensures;
-      all = c.as_slice-names.ensures.value ∙ c.in_ok-all.ensures;
-      named = c.in_ok-check_names.ensures;
-      right = c.in_ok-check_wires.ensures;
-    }

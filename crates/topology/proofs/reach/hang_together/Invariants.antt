@@ -1,7 +1,7 @@
 use Rattle.std.proofs.Common.{◌≡◌, ℕ, true, length}
 use Rattle.topology.specs.Lamps.{hall_in}
 use Rattle.topology.specs.Reach.{is_reached, Reachable, unreached}
-use Rattle.topology.proofs.reach.reaches_all.Given as goal
+use Rattle.topology.proofs.reach.hang_together.Given as goal
 
 -- the first lamp is reached, and no lamp that cannot be
 abbrev pub invariant-loop : goal.invariant-loop

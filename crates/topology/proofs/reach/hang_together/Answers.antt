@@ -1,0 +1,24 @@
+use Rattle.std.proofs.Common.{◌≡◌, true, false, length, set, replicate, sym, ap, ◌∙◌, subst, rules}
+use Rattle.std.proofs.lemmas.List.{length-set, length-replicate}
+use Rattle.topology.specs.Lamps.{hall_in}
+use Rattle.topology.specs.Reach.{is_reached, Reachable}
+use Rattle.topology.proofs.Spreads.{begun, begun_first, whether_joined}
+use Rattle.topology.proofs.reach.hang_together.Goals as goal
+
+pub loop-init : goal.loop-init
+loop-init c =
+    let sites = c.args.sites.now in
+    let none : replicate (length sites) false ≡ c.as_mut_slice-reached.result.now = search rules in
+    let first = ap (λ xs. set xs 0 true) none in (
+      length-set c.as_mut_slice-reached.result.now 0 true ∙ ap length (sym none) ∙ length-replicate (length sites) false,
+      subst (λ xs. is_reached xs 0 ≡ true) first (begun_first sites c.requires.some),
+      λ most. subst (Reachable (hall_in most sites)) first (begun sites c.requires.some most),
+    )
+
+pub returns : goal.returns
+returns c =
+    let pass = c.spread.ensures in
+    whether_joined c.args.sites.now c.requires.some c.requires.within c.requires.both c.spread.new.reached
+    (pass.long ∙ c.loop.invariant.0) (pass.kept 0 c.loop.invariant.1) (λ most. pass.ways most c.requires.both (c.loop.invariant.2 most))
+    (pass.settled c.loop-test.false).1
+    c.contains.result c.contains.ensures.cases
