@@ -1,9 +1,11 @@
 -- What holds of every hall that lines describe.
-use Rattle.std.proofs.Common.{◌≡◌, ℕ, zero, suc, ◌<◌, ◌≤◌, Bool, true, false, List, [], length, get_or, vec_items, MatchBool, sym, ap, ◌∙◌, subst, ⊎_elim, arith}
+use Rattle.std.proofs.Common.{◌≡◌, ℕ, zero, suc, ◌<◌, ◌≤◌, Bool, true, false, List, [], length, get_or, vec_items, Result, sym, ap, ◌∙◌, subst, ⊎_elim, arith}
 use Rattle.std.specs.List.{All}
 use Rattle.std.proofs.lemmas.List.Elements.{All-weaker}
 use Rattle.std.proofs.lemmas.List.{get_or-map}
-use Rattle.std.proofs.lemmas.Bool.{and_parts, leb-true, cases_order}
+use Rattle.std.specs.Result.{IsErrAnd}
+use Rattle.std.proofs.lemmas.Result.{err_from_is_err_and}
+use Rattle.std.proofs.lemmas.Bool.{and_parts, leb-true, cases_order, MatchBool-at_true, MatchBool-at_false}
 use Rattle.protocol.specs.declared.facts.Own.{Own}
 use Rattle.protocol.specs.declared.facts.Site.{Site}
 use Rattle.protocol.specs.Rows.{has_wire, places_of}
@@ -15,7 +17,10 @@ use Rattle.topology.specs.Lamps.{hall_in, Placed, OfMost}
 use Rattle.topology.specs.Files.{names_in, ends_at, places_at, EndsBelow, Describes, Breaks}
 use Rattle.topology.specs.Checks.{Headed, Apart, Named, RightEnds, Checked, AllSound, Stands}
 use Rattle.topology.specs.Reach.{WhetherJoined}
-use Rattle.topology.specs.Reading.{hall_of, AcceptedIsSound}
+use Rattle.topology.specs.declared.fault.Fault.{Fault}
+use Rattle.topology.specs.declared.fault.Refused.{Refused}
+use Rattle.topology.specs.declared.hall.Topology.{Topology}
+use Rattle.topology.specs.Reading.{hall_of, ReadAs, AcceptedIsSound}
 use Rattle.topology.proofs.Ways.{way_within}
 use Rattle.topology.proofs.Spreads.{head_of}
 use Rattle.topology.proofs.Ends.{ends_turned, ends_below, ends_right, right_below, rises_apart}
@@ -41,7 +46,7 @@ module _ {lines : List Line} {h : Hall} (d : Describes lines h) where
 
   -- where it is sound too, the lines pass each check
   module _ (s : Sound h) where
-    pub sound_headed : Headed lines h.most
+    sound_headed : Headed lines h.most
     sound_headed =
         record {
           first = d.most;
@@ -85,6 +90,9 @@ module _ {lines : List Line} {h g : Hall} (d : Describes lines h) (e : Describes
       joined a b (from, to, λ n w. p.2 n (way_over from n w))
 
 -- lines that fail a check break a rule
+pub breaks_headed : {lines : List Line} → ((most : ℕ) → Headed lines most → ⊥) → Breaks lines
+breaks_headed fails h d s = fails h.most (sound_headed d s)
+
 module _ {lines : List Line} {most : ℕ} (headed : Headed lines most) where
   same_most : {h : Hall} → Describes lines h → h.most ≡ most
   same_most {h} d = let first = headed.first in let again = d.most in cc
@@ -99,13 +107,18 @@ module _ {lines : List Line} {most : ℕ} (headed : Headed lines most) where
     pub breaks_sites : (AllSound most names lines → ⊥) → Breaks lines
     breaks_sites fails h d s = fails (rw (all, sym (same_most d)) (sound_sites d s))
 
+-- where the refusal of a check is handed on
+pub read_refused :
+    {lines : List Line} (r : Result Topology Fault) (refused : Refused) → IsErrAnd r (λ fault. fault ≡ Fault.Refused refused) → Breaks lines → ReadAs lines r
+read_refused r refused handed breaks = let p = err_from_is_err_and r handed in rw (p.1, p.2) breaks
+
 -- the answer whether lamps hang together, of sites that were lent as ys
 module _ {sites ys : List Site} {all : Bool} (lent : ys ≡ sites) (whether : WhetherJoined ys all) (most : ℕ) where
   pub when_joined : all ≡ true → HangTogether (hall_in most sites)
-  when_joined t = subst (λ xs. HangTogether (hall_in most xs)) lent (subst (λ b. MatchBool b (HangTogether (hall_in most ys)) (HangTogether (hall_in most ys) → ⊥)) t (whether most))
+  when_joined t = subst (λ xs. HangTogether (hall_in most xs)) lent (MatchBool-at_true _ _ t (whether most))
 
   when_not : all ≡ false → HangTogether (hall_in most sites) → ⊥
-  when_not f = subst (λ xs. HangTogether (hall_in most xs) → ⊥) lent (subst (λ b. MatchBool b (HangTogether (hall_in most ys)) (HangTogether (hall_in most ys) → ⊥)) f (whether most))
+  when_not f = subst (λ xs. HangTogether (hall_in most xs) → ⊥) lent (MatchBool-at_false _ _ f (whether most))
 
   pub breaks_joined : {lines : List Line} → Describes lines (hall_in most sites) → all ≡ false → Breaks lines
   breaks_joined e f h d s = when_not f (joined_over d e s.joined)
@@ -142,10 +155,7 @@ module _ {lines : List Line} {most : ℕ} {names : List ℕ} {sites : List Site}
   stands_differ = described_differ stands_described (subst (λ ns. Apart ns (length ns)) checked.all checked.named.apart)
 
 same_own : (own : Own) (most place name : ℕ) → own.most ≡ most → own.place ≡ place → name ≡ own.name → record { most = most; place = place; name = name } ≡ own
-same_own own most place name m p n =
-    ap (λ x. record { most = x; place = place; name = name }) (sym m)
-    ∙ ap (λ x. record { most = own.most; place = x; name = name }) (sym p)
-    ∙ ap (λ x. record { most = own.most; place = own.place; name = x }) n
+same_own own most place name m p n = rw (← m, ← p, n)
 
 -- a topology's own facts make its hall sound
 pub sound_of : AcceptedIsSound

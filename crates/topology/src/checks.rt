@@ -1,5 +1,5 @@
 // What has to be right of the lines of a hall file before sites are made.
-ghost use Rattle.std.specs.Prelude.{◌≡◌, ℕ, ◌+◌, length, MatchOption, MatchResult};
+ghost use Rattle.std.specs.Prelude.{◌≡◌, ◌↔◌, ℕ, ◌+◌, length, IsOk, MatchOption, MatchResult};
 ghost use Rattle.std.specs.List.{All};
 ghost use Rattle.topology.specs.Files.{fits, Fit};
 ghost use Rattle.topology.specs.Checks.{Misfit, Headed, Apart, Again, Named, RightEnds};
@@ -53,7 +53,7 @@ fn again(names: &[u32]) -> Option<usize>
 
 // Lamps stand from the second line on.
 pub(crate) fn check_names(most: u32, names: &[u32]) -> Result<(), Refused>
-    ensures { MatchResult result (λ _. Named most names.now) (λ _. (Named most names.now → ⊥)) }
+    ensures { IsOk result ↔ Named most names.now }
 {
     if names.is_empty() {
         return Err(Refused::of_all(Reason::NoLamps));
@@ -69,7 +69,7 @@ pub(crate) fn check_names(most: u32, names: &[u32]) -> Result<(), Refused>
 
 // A wire has its ends at two of so many lamps.
 fn check_wire(count: usize, line: Line) -> Result<(), Reason>
-    ensures { MatchResult result (λ _. RightEnds count line) (λ _. (RightEnds count line → ⊥)) }
+    ensures { IsOk result ↔ RightEnds count line }
 {
     let Line::Wire(a, b) = line else {
         return Ok(());
@@ -84,7 +84,7 @@ fn check_wire(count: usize, line: Line) -> Result<(), Reason>
 }
 
 pub(crate) fn check_wires(count: usize, lines: &[Line]) -> Result<(), Refused>
-    ensures { MatchResult result (λ _. All (RightEnds count) lines.now) (λ _. (All (RightEnds count) lines.now → ⊥)) }
+    ensures { IsOk result ↔ All (RightEnds count) lines.now }
 {
     for (i, line) in lines.iter().enumerate() {
         check_wire(count, *line).map_err(|reason| Refused::at(i + 1, reason))?;

@@ -48,7 +48,9 @@ impl Plan<'_> {
 
     // The site of a lamp with these numbers, where it is sound.
     fn site_of(&self, heap: Global, own: Own) -> Result<Option<Site>, AllocError>
-        ensures { IfOk result (λ found. MatchOption found (is_sound own (places_at own.place self.now.lines.now) ≡ false) (OfLamp own self.now.lines.now)) }
+        ensures { IfOk result (λ found. MatchOption found
+            (is_sound own (places_at own.place self.now.lines.now) ≡ false)
+            (OfLamp own self.now.lines.now)) }
     {
         let ends = self.ends_at(heap, own.place)?;
         let places = rising(heap, ends.as_slice())?;
@@ -57,7 +59,9 @@ impl Plan<'_> {
 
     // The sites of all lamps, where each is sound.
     pub(crate) fn sites(&self, heap: Global) -> Result<Option<Vec<Site>>, AllocError>
-        ensures { IfOk result (λ found. MatchOption found (AllSound self.now.most self.now.names.now self.now.lines.now → ⊥) (λ sites. Stands self.now.most self.now.names.now self.now.lines.now sites.items)) }
+        ensures { IfOk result (λ found. MatchOption found
+            (AllSound self.now.most self.now.names.now self.now.lines.now → ⊥)
+            (λ sites. Stands self.now.most self.now.names.now self.now.lines.now sites.items)) }
     {
         let mut sites = Vec::new(heap);
         for (i, name) in self.names.iter().enumerate() {

@@ -9,4 +9,4 @@ use Rattle.topology.proofs.plan.names_in.Goals as goal
 pub returns : goal.returns
 returns c =
     IfOk-weaker c.collect.result _ _ (λ names e. e ∙ names_kept c.args.lines.now)
-    (items_from_collect _ c.collect.ensures.ran (YieldsList-from_filter_map _ name_if (YieldsList-from_slice c.args.lines.now cc) c.filter_map.ensures.closure (λ x r q k. search (rules, tests))))
+    (items_from_collect c.collect.result c.collect.ensures.ran (YieldsList-from_filter_map _ name_if (YieldsList-from_slice c.args.lines.now cc) c.filter_map.ensures.closure (λ x r q k. search (rules, tests))))

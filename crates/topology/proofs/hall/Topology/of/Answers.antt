@@ -1,23 +1,19 @@
 use Rattle.std.proofs.Common.{◌∙◌}
-use Rattle.std.proofs.lemmas.Result.{err_from_is_err_and}
-use Rattle.topology.proofs.Described.{sound_headed, breaks_named, breaks_right}
+use Rattle.std.proofs.lemmas.Bool.{false≢true}
+use Rattle.topology.proofs.Described.{breaks_headed, breaks_named, breaks_right, read_refused}
 use Rattle.topology.proofs.hall.Topology.of.Goals as goal
 
 pub returns-in_err-most : goal.returns-in_err-most
-returns-in_err-most c =
-    let p = err_from_is_err_and c.from_residual.result c.from_residual.ensures.1 in
-    rw (p.1, p.2) (λ h d s. c.in_err-most.ensures h.most (sound_headed d s))
+returns-in_err-most c = read_refused _ _ c.from_residual.ensures.1 (breaks_headed c.in_err-most.ensures)
 
 pub returns-in_err-check_names : goal.returns-in_err-check_names
 returns-in_err-check_names c =
-    let p = err_from_is_err_and c.from_residual-in_err-check_names.result c.from_residual-in_err-check_names.ensures.1 in
-    rw (p.1, p.2) (
-    breaks_named c.in_ok-most.ensures (c.as_slice-names.ensures.value ∙ c.in_ok-all.ensures) c.in_err-check_names.ensures
+    read_refused _ _ c.from_residual-in_err-check_names.ensures.1 (
+    breaks_named c.in_ok-most.ensures (c.as_slice-names.ensures.value ∙ c.in_ok-all.ensures) (λ named. false≢true (c.in_err-check_names.ensures.1 named))
     )
 
 pub returns-in_err-check_wires : goal.returns-in_err-check_wires
 returns-in_err-check_wires c =
-    let p = err_from_is_err_and c.from_residual-in_err-check_wires.result c.from_residual-in_err-check_wires.ensures.1 in
-    rw (p.1, p.2) (
-    breaks_right c.in_ok-most.ensures (c.as_slice-names.ensures.value ∙ c.in_ok-all.ensures) c.in_err-check_wires.ensures
+    read_refused _ _ c.from_residual-in_err-check_wires.ensures.1 (
+    breaks_right c.in_ok-most.ensures (c.as_slice-names.ensures.value ∙ c.in_ok-all.ensures) (λ right. false≢true (c.in_err-check_wires.ensures.1 right))
     )

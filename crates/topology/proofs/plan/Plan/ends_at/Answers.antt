@@ -11,6 +11,6 @@ returns c =
     let plan = c.args.self.now in
     let lines = plan.lines.now in
     IfOk-weaker c.collect.result _ _ (λ ends e. e ∙ ends_kept (length plan.names.now) c.args.place lines plan.checked.right)
-    (items_from_collect _ c.collect.ensures.ran (
+    (items_from_collect c.collect.result c.collect.ensures.ran (
     YieldsList-from_filter_map _ (end_if c.args.place) (YieldsList-from_slice lines cc) c.filter_map.ensures.closure (λ x r q k. search (rules, tests))
     ))
