@@ -1,11 +1,9 @@
 -- What holds of every hall that lines describe.
-use Rattle.std.proofs.Common.{◌≡◌, ℕ, zero, suc, ◌<◌, ◌≤◌, Bool, true, false, List, [], length, get_or, vec_items, Result, sym, ap, ◌∙◌, subst, ⊎_elim, arith}
+use Rattle.std.proofs.Common.{◌≡◌, ℕ, zero, suc, ◌<◌, ◌≤◌, Bool, true, false, List, [], length, get_or, vec_items, sym, ap, ◌∙◌, subst, ⊎_elim, arith}
 use Rattle.std.specs.List.{All}
 use Rattle.std.proofs.lemmas.List.Elements.{All-weaker}
 use Rattle.std.proofs.lemmas.List.{get_or-map}
-use Rattle.std.specs.Result.{IsErrAnd}
-use Rattle.std.proofs.lemmas.Result.{err_from_is_err_and}
-use Rattle.std.proofs.lemmas.Bool.{and_parts, leb-true, cases_order, MatchBool-at_true, MatchBool-at_false}
+use Rattle.std.proofs.lemmas.Bool.{and_parts, cases_order, MatchBool-at_true, MatchBool-at_false}
 use Rattle.protocol.specs.declared.facts.Own.{Own}
 use Rattle.protocol.specs.declared.facts.Site.{Site}
 use Rattle.protocol.specs.Rows.{has_wire, places_of}
@@ -14,13 +12,10 @@ use Rattle.places.proofs.Named.{rising_and_whole}
 use Rattle.model.specs.Halls.{Hall, Way, stay, step, is_wired, own_of, Sound, NamesDiffer, WiresWithin, WiredBothWays, HangTogether}
 use Rattle.topology.specs.declared.lines.Line.{Line}
 use Rattle.topology.specs.Lamps.{hall_in, Placed, OfMost}
-use Rattle.topology.specs.Files.{names_in, ends_at, places_at, EndsBelow, Describes, Breaks}
-use Rattle.topology.specs.Checks.{Headed, Apart, Named, RightEnds, Checked, AllSound, Stands}
+use Rattle.topology.specs.Files.{names_in, ends_at, EndsBelow, Describes, Breaks}
+use Rattle.topology.specs.Checks.{Apart, RightEnds, Checked, Stands}
 use Rattle.topology.specs.Reach.{WhetherJoined}
-use Rattle.topology.specs.declared.fault.Fault.{Fault}
-use Rattle.topology.specs.declared.fault.Refused.{Refused}
-use Rattle.topology.specs.declared.hall.Topology.{Topology}
-use Rattle.topology.specs.Reading.{hall_of, ReadAs, AcceptedIsSound}
+use Rattle.topology.specs.Reading.{hall_of, AcceptedIsSound}
 use Rattle.topology.proofs.Ways.{way_within}
 use Rattle.topology.proofs.Spreads.{head_of}
 use Rattle.topology.proofs.Ends.{ends_turned, ends_below, ends_right, right_below, rises_apart}
@@ -44,36 +39,11 @@ module _ {lines : List Line} {h : Hall} (d : Describes lines h) where
       (λ o. ⊎_elim (λ l. absurd (apart a b (l, omega (arith, d.count), same))) (λ l. absurd (apart b a (l, omega (arith, d.count), sym same))) o)
       (cases_order a b)
 
-  -- where it is sound too, the lines pass each check
-  module _ (s : Sound h) where
-    sound_headed : Headed lines h.most
-    sound_headed =
-        record {
-          first = d.most;
-          fit = d.fit;
-          least = omega (arith, s.some, s.few);
-          bound = leb-true _ _ (and_parts _ _ (and_parts _ _ (and_parts _ _ (and_parts _ _ (s.sites 0 s.some)).0).0).0).1;
-        }
-
-    pub sound_named : Named h.most (names_in lines)
-    sound_named =
-        record {
-          some = omega (arith, d.count, s.some);
-          few = omega (arith, d.count, s.few);
-          apart = λ a b p. let e = s.names a b (omega (arith, d.count), omega (arith, d.count), d.names a (omega (arith, d.count)) ∙ p.2 ∙ sym (d.names b (omega (arith, d.count)))) in omega arith;
-        }
-
-    pub sound_right : All (RightEnds h.count) lines
-    sound_right =
-        ends_right h.count lines d.ends
-        (λ i l e. rises_apart (own_of h i) 0 (h.neighbours i) (and_parts _ _ (s.sites i l)).1 (wired_at i i l ∙ e))
-
-    pub sound_sites : AllSound h.most (names_in lines) lines
-    sound_sites i l =
-        let inside : i < h.count = omega (arith, d.count) in
-        ap (λ n. is_sound (record { most = h.most; place = i; name = n }) (places_at i lines)) (sym (d.names i inside))
-        ∙ ap (is_sound (own_of h i)) (sym (d.wires i inside))
-        ∙ s.sites i inside
+  -- where it is sound too, each wire is right
+  sound_right : Sound h → All (RightEnds h.count) lines
+  sound_right s =
+      ends_right h.count lines d.ends
+      (λ i l e. rises_apart (own_of h i) 0 (h.neighbours i) (and_parts _ _ (s.sites i l)).1 (wired_at i i l ∙ e))
 
 -- two halls that lines describe have the same ways
 module _ {lines : List Line} {h g : Hall} (d : Describes lines h) (e : Describes lines g) where
@@ -89,28 +59,9 @@ module _ {lines : List Line} {h g : Hall} (d : Describes lines h) (e : Describes
       let to : b < h.count = omega (arith, d.count, e.count, p.1) in
       joined a b (from, to, λ n w. p.2 n (way_over from n w))
 
--- lines that fail a check break a rule
-pub breaks_headed : {lines : List Line} → ((most : ℕ) → Headed lines most → ⊥) → Breaks lines
-breaks_headed fails h d s = fails h.most (sound_headed d s)
-
-module _ {lines : List Line} {most : ℕ} (headed : Headed lines most) where
-  same_most : {h : Hall} → Describes lines h → h.most ≡ most
-  same_most {h} d = let first = headed.first in let again = d.most in cc
-
-  module _ {names : List ℕ} (all : names ≡ names_in lines) where
-    pub breaks_named : (Named most names → ⊥) → Breaks lines
-    breaks_named fails h d s = fails (rw (all, sym (same_most d)) (sound_named d s))
-
-    pub breaks_right : (All (RightEnds (length names)) lines → ⊥) → Breaks lines
-    breaks_right fails h d s = fails (subst (λ n. All (RightEnds n) lines) (d.count ∙ ap length (sym all)) (sound_right d s))
-
-    pub breaks_sites : (AllSound most names lines → ⊥) → Breaks lines
-    breaks_sites fails h d s = fails (rw (all, sym (same_most d)) (sound_sites d s))
-
--- where the refusal of a check is handed on
-pub read_refused :
-    {lines : List Line} (r : Result Topology Fault) (refused : Refused) → IsErrAnd r (λ fault. fault ≡ Fault.Refused refused) → Breaks lines → ReadAs lines r
-read_refused r refused handed breaks = let p = err_from_is_err_and r handed in rw (p.1, p.2) breaks
+-- lines with a wire that is not right break a rule
+pub breaks_right : {lines : List Line} {names : List ℕ} → names ≡ names_in lines → (All (RightEnds (length names)) lines → ⊥) → Breaks lines
+breaks_right {lines} all fails h d s = fails (subst (λ n. All (RightEnds n) lines) (d.count ∙ ap length (sym all)) (sound_right d s))
 
 -- the answer whether lamps hang together, of sites that were lent as ys
 module _ {sites ys : List Site} {all : Bool} (lent : ys ≡ sites) (whether : WhetherJoined ys all) (most : ℕ) where

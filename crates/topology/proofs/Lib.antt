@@ -1,6 +1,5 @@
 pub mod Ways
 mod Spreads
-mod Loops
 mod Kept
 mod Pairs
 mod Names

@@ -128,16 +128,6 @@ module _ (sites : List Site) where
       spread_more true after more e a w = rw (a, w ∙ or-true grew) (spread_next (sym e))
       spread_more false after more e a w = rw (a, w ∙ or-false grew) (spread_on (sym e))
 
-  pub spread_none : (reached : List Bool) → Spread sites 0 reached reached false
-  spread_none reached =
-      record {
-        long = refl;
-        kept = λ i e. e;
-        ways = λ most both w. w;
-        settled = λ f. (refl, λ i d l. absurd (omega arith));
-        fewer = λ t. absurd (both_ways _ refl t);
-      }
-
   -- nothing but the first lamp is reached
   module _ (some : 1 ≤ length sites) where
     pub begun : (most : ℕ) → Reachable (hall_in most sites) (set (replicate (length sites) false) 0 true)

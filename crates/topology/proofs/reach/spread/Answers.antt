@@ -1,10 +1,6 @@
-use Rattle.std.proofs.Common.{◌≡◌, length, refl, ◌∙◌, subst, arith}
-use Rattle.topology.specs.Reach.{Spread}
-use Rattle.topology.proofs.Spreads.{spread_none, spread_more}
+use Rattle.std.proofs.Common.{refl, ◌∙◌}
+use Rattle.topology.proofs.Spreads.{spread_more}
 use Rattle.topology.proofs.reach.spread.Goals as goal
-
-pub loop-place-init : goal.loop-place-init
-loop-place-init c = spread_none c.args.sites.now c.args.reached.now
 
 pub loop-place-preserved : goal.loop-place-preserved
 loop-place-preserved c =
@@ -12,8 +8,3 @@ loop-place-preserved c =
     spread_more c.args.sites.now c.args.reached.now c.loop-place.reached c.loop-place.grew c.loop-place.place c.loop-place.invariant
     c.index-sites-place.result c.loop-place-test.true (c.loop-place.invariant.long ∙ c.requires) c.index-sites-place.is
     c.reach-grew.result c.reach-grew.new.reached _ r.next r.after refl
-
-pub returns : goal.returns
-returns c =
-    let end : c.loop-place.place ≡ length c.args.sites.now = omega arith in
-    subst (λ n. Spread c.args.sites.now n c.args.reached.now c.loop-place.reached c.loop-place.grew) end c.loop-place.invariant

@@ -1,11 +1,8 @@
 use Rattle.std.proofs.Common.{sym, subst, arith}
-use Rattle.std.proofs.lemmas.Option.{MatchOption-at_some, MatchOption-at_none}
+use Rattle.std.proofs.lemmas.Option.{MatchOption-at_some}
 use Rattle.topology.specs.Checks.{Stands}
-use Rattle.topology.proofs.Described.{breaks_sites, breaks_joined, when_joined, described_within, described_both, stands_some, stands_few, stands_placed, stands_of_most, stands_described, stands_differ}
+use Rattle.topology.proofs.Described.{breaks_joined, when_joined, described_within, described_both, stands_some, stands_few, stands_placed, stands_of_most, stands_described, stands_differ}
 use Rattle.topology.proofs.hall.Topology.build.Goals as goal
-
-pub returns-in_default : goal.returns-in_default
-returns-in_default c = let plan = c.args.plan.now in breaks_sites plan.checked.headed plan.checked.all (MatchOption-at_none _ _ c.in_default.is c.in_ok-sites.ensures)
 
 pub hang_together-requires : goal.hang_together-requires
 hang_together-requires c =
