@@ -9,3 +9,4 @@ mod Rounds
 mod Standing
 mod Answering
 mod Turning
+mod Numbers

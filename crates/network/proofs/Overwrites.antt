@@ -1,120 +1,97 @@
--- A part of a list written over: what stands inside it, and outside.
-use Rattle.std.proofs.Common.{◌≡◌, ℕ, ◌+◌, ◌-◌, ◌*◌, ◌<◌, ◌≤◌, ◌⊎◌, List, [], ◌∷◌, ◌++◌, length, get_or, take, drop, sym, refl, ap, ◌∙◌, subst, inl, inr, ⊎_elim, arith, length-append, length-drop, length-take}
+-- A part of a list written over: what stands there, and in all other parts.
+use Rattle.std.proofs.Common.{◌≡◌, ℕ, ◌+◌, ◌-◌, ◌*◌, ◌<◌, ◌≤◌, ◌⊎◌, List, ◌++◌, length, get_or, take, drop, sym, refl, ap, ◌∙◌, subst, inl, inr, ⊎_elim, arith, length-append, length-drop, length-take}
 use borrow.Rule.Slice.PartMut.{put_mid}
-use Rattle.std.proofs.lemmas.List.{get_or_append_left, get_or-append_right, get_or-take, get_or-drop, length-take-le}
+use Rattle.std.proofs.lemmas.List.{same_lists, get_or_append_left, get_or-append_right, get_or-take, get_or-drop, length-take-le}
 use Rattle.std.proofs.lemmas.Bool.{cases_lt}
+use Rattle.std.proofs.Math.Nat.{mul-le-mul_left}
 use Rattle.telling.specs.declared.Telling.{Telling}
+use Rattle.telling.specs.Words.{words_of_telling, telling_of_words}
 use Rattle.protocol.specs.declared.state.Numbers.{Numbers}
-use Rattle.network.specs.Words.{telling_in, numbers_in, TellingPut, NumbersPut}
+use Rattle.protocol.specs.Words.{words_of_numbers, numbers_of_words}
+use Rattle.network.specs.Words.{part_in, Put, PartPut, TellingPut, NumbersPut}
 
 -- xs with ys over its n elements from a on
 module _ (xs ys : List ℕ) (a n : ℕ) (room : a + n ≤ length xs) (whole : length ys ≡ n) where
   front : length (take a xs) ≡ a
   front = length-take-le a xs (omega arith)
 
-  pub mid_inside : (f : ℕ) → f < n → get_or (put_mid a n xs ys) (a + f) 0 ≡ get_or ys f 0
-  mid_inside f l =
-      get_or-append_right (take a xs) (ys ++ drop n (drop a xs)) a (a + f) 0 front (omega arith)
-      ∙ ap (λ i. get_or (ys ++ drop n (drop a xs)) i 0) (omega arith)
-      ∙ get_or_append_left ys (drop n (drop a xs)) 0 f (omega arith)
+  mid_inside : (f d : ℕ) → f < n → get_or (put_mid a n xs ys) (a + f) d ≡ get_or ys f d
+  mid_inside f d l =
+      get_or-append_right (take a xs) (ys ++ drop n (drop a xs)) a (a + f) d front (omega arith)
+      ∙ ap (λ i. get_or (ys ++ drop n (drop a xs)) i d) (omega arith)
+      ∙ get_or_append_left ys (drop n (drop a xs)) d f (omega arith)
 
-  mid_below : (k : ℕ) → k < a → get_or (put_mid a n xs ys) k 0 ≡ get_or xs k 0
-  mid_below k l = get_or_append_left (take a xs) (ys ++ drop n (drop a xs)) 0 k (omega (arith, front)) ∙ get_or-take a xs k 0 l
+  mid_below : (k d : ℕ) → k < a → get_or (put_mid a n xs ys) k d ≡ get_or xs k d
+  mid_below k d l = get_or_append_left (take a xs) (ys ++ drop n (drop a xs)) d k (omega (arith, front)) ∙ get_or-take a xs k d l
 
-  mid_above : (k : ℕ) → a + n ≤ k → get_or (put_mid a n xs ys) k 0 ≡ get_or xs k 0
-  mid_above k l =
-      get_or-append_right (take a xs) (ys ++ drop n (drop a xs)) a k 0 front (omega arith)
-      ∙ get_or-append_right ys (drop n (drop a xs)) n (k - a) 0 whole (omega arith)
-      ∙ get_or-drop n (drop a xs) (k - a - n) 0
-      ∙ get_or-drop a xs (n + (k - a - n)) 0
-      ∙ ap (λ i. get_or xs i 0) (omega arith)
+  mid_above : (k d : ℕ) → a + n ≤ k → get_or (put_mid a n xs ys) k d ≡ get_or xs k d
+  mid_above k d l =
+      get_or-append_right (take a xs) (ys ++ drop n (drop a xs)) a k d front (omega arith)
+      ∙ get_or-append_right ys (drop n (drop a xs)) n (k - a) d whole (omega arith)
+      ∙ get_or-drop n (drop a xs) (k - a - n) d
+      ∙ get_or-drop a xs (n + (k - a - n)) d
+      ∙ ap (λ i. get_or xs i d) (omega arith)
 
-  pub mid_outside : (k : ℕ) → (k < a) ⊎ (a + n ≤ k) → get_or (put_mid a n xs ys) k 0 ≡ get_or xs k 0
-  mid_outside k o = ⊎_elim (mid_below k) (mid_above k) o
+  mid_outside : (k d : ℕ) → (k < a) ⊎ (a + n ≤ k) → get_or (put_mid a n xs ys) k d ≡ get_or xs k d
+  mid_outside k d o = ⊎_elim (mid_below k d) (mid_above k d) o
 
-  pub length-mid : length (put_mid a n xs ys) ≡ length xs
+  length-mid : length (put_mid a n xs ys) ≡ length xs
   length-mid = simp (length-append, length-take, length-drop) (omega arith)
 
--- what lies outside part s of w words lies before it or behind it
-apart : (s r : ℕ) → (r ≡ s → ⊥) → (r < s) ⊎ (s < r)
-apart s r ne = ⊎_elim (λ l. inl l) (λ l. inr (omega arith)) (cases_lt r s)
+get_or-part : (n : ℕ) (xs : List ℕ) (s k d : ℕ) → k < n → get_or (part_in n xs s) k d ≡ get_or xs (n * s + k) d
+unfolding part_in
+get_or-part n xs s k d l = get_or-take n (drop (n * s) xs) k d l ∙ get_or-drop (n * s) xs k d
 
-module _ (xs : List ℕ) (s : ℕ) (t : Telling) (room : 7 * s + 7 ≤ length xs) where
-  abbrev seven : List ℕ
-  seven = t.best ∷ t.distance ∷ t.parent ∷ t.size ∷ t.total ∷ t.number ∷ t.given ∷ []
+length-part : (n : ℕ) (xs ys : List ℕ) (s : ℕ) → length xs ≡ length ys → length (part_in n xs s) ≡ length (part_in n ys s)
+unfolding part_in
+length-part n xs ys s e = simp (length-take, length-drop) (rw e refl)
 
-  seven_other : (r f : ℕ) → (r ≡ s → ⊥) → f < 7 → get_or (put_mid (7 * s) 7 xs seven) (7 * r + f) 0 ≡ get_or xs (7 * r + f) 0
-  seven_other r f ne l =
-      mid_outside xs seven (7 * s) 7 room refl (7 * r + f) (⊎_elim (λ b. inl (omega arith)) (λ b. inr (omega arith)) (apart s r ne))
+length-part-le : (n : ℕ) (xs : List ℕ) (s : ℕ) → length (part_in n xs s) ≤ n
+unfolding part_in
+length-part-le n xs s = simp (length-take) (omega arith)
 
-  telling_put_mid : TellingPut xs (put_mid (7 * s) 7 xs seven) s t
-  unfolding telling_in
-  telling_put_mid =
-      let at = λ (f : ℕ) (l : f < 7). mid_inside xs seven (7 * s) 7 room refl f l in
+length-part-whole : (n : ℕ) (xs : List ℕ) (s : ℕ) → n * s + n ≤ length xs → length (part_in n xs s) ≡ n
+unfolding part_in
+length-part-whole n xs s l = simp (length-take, length-drop) (omega arith)
+
+-- another part lies before this one or behind it
+apart : (n s r k : ℕ) → (r ≡ s → ⊥) → k < n → (n * r + k < n * s) ⊎ (n * s + n ≤ n * r + k)
+apart n s r k ne l =
+    ⊎_elim (λ b. inl (omega (arith, mul-le-mul_left {m = r + 1} {n = s} n (omega arith)))) (λ b. inr (omega (arith, mul-le-mul_left {m = s + 1} {n = r} n (omega arith)))) (cases_lt r s)
+
+module _ (n : ℕ) (xs ys : List ℕ) (s : ℕ) (room : n * s + n ≤ length xs) (whole : length ys ≡ n) where
+  abbrev zs : List ℕ
+  zs = put_mid (n * s) n xs ys
+
+  long : length zs ≡ length xs
+  long = length-mid xs ys (n * s) n room whole
+
+  part_put_mid : PartPut n xs zs s ys
+  part_put_mid =
       record {
         here =
-            let z : get_or (put_mid (7 * s) 7 xs seven) (7 * s) 0 ≡ t.best = ap (λ i. get_or (put_mid (7 * s) 7 xs seven) i 0) (omega arith) ∙ at 0 (omega arith) in
-            let a = at 1 (omega arith) in
-            let b = at 2 (omega arith) in
-            let c = at 3 (omega arith) in
-            let d = at 4 (omega arith) in
-            let e = at 5 (omega arith) in
-            let f = at 6 (omega arith) in
-            let all : telling_in (put_mid (7 * s) 7 xs seven) s ≡
-            record { best = t.best; distance = t.distance; parent = t.parent; size = t.size; total = t.total; number = t.number; given = t.given } = cc in
-            all;
+            let full = length-part-whole n zs s (omega (arith, long)) in
+            same_lists _ _ (full ∙ sym whole)
+            (λ k d l. get_or-part n zs s k d (omega arith) ∙ mid_inside xs ys (n * s) n room whole k d (omega arith));
         others = λ r ne.
-            let z : get_or (put_mid (7 * s) 7 xs seven) (7 * r) 0 ≡ get_or xs (7 * r) 0 =
-            mid_outside xs seven (7 * s) 7 room refl (7 * r) (⊎_elim (λ b. inl (omega arith)) (λ b. inr (omega arith)) (apart s r ne)) in
-            let a = seven_other r 1 ne (omega arith) in
-            let b = seven_other r 2 ne (omega arith) in
-            let c = seven_other r 3 ne (omega arith) in
-            let d = seven_other r 4 ne (omega arith) in
-            let e = seven_other r 5 ne (omega arith) in
-            let f = seven_other r 6 ne (omega arith) in
-            cc;
-        long = length-mid xs seven (7 * s) 7 room refl;
+            same_lists _ _ (length-part n zs xs r long)
+            (λ k d l.
+            let inside : k < n = omega (arith, length-part-le n zs r) in
+            get_or-part n zs r k d inside ∙ mid_outside xs ys (n * s) n room whole (n * r + k) d (apart n s r k ne inside) ∙ sym (get_or-part n xs r k d inside));
+        long = long;
       }
 
-  pub telling_put : (ys after : List ℕ) (n : ℕ) → ys ≡ seven → n ≡ 7 → after ≡ put_mid (7 * s) n xs ys → TellingPut xs after s t
-  telling_put ys after n e f g =
-      subst (λ zs. TellingPut xs zs s t) (sym (g ∙ ap (λ n. put_mid (7 * s) n xs ys) f ∙ ap (put_mid (7 * s) 7 xs) e)) telling_put_mid
+  pub part_put : (m : ℕ) (written : List ℕ) → m ≡ n → written ≡ ys → PartPut n xs (put_mid (n * s) m xs written) s ys
+  part_put m written e f = subst (λ ws. PartPut n xs ws s ys) (sym (ap (λ m. put_mid (n * s) m xs written) e ∙ ap (put_mid (n * s) n xs) f)) part_put_mid
 
-module _ (xs : List ℕ) (s : ℕ) (w : Numbers) (room : 6 * s + 6 ≤ length xs) where
-  abbrev six : List ℕ
-  six = w.best ∷ w.distance ∷ w.parent ∷ w.size ∷ w.total ∷ w.number ∷ []
+-- what is read of a part is put where its words are
+pub put_read :
+    {X : Type 0} (n : ℕ) (read : List ℕ → X) (xs zs : List ℕ) (s : ℕ) (ys : List ℕ) (x : X) → read ys ≡ x → PartPut n xs zs s ys →
+    Put (λ words r. read (part_in n words r)) xs zs s x
+put_read n read xs zs s ys x is put = record { here = ap read put.here ∙ is; others = λ r ne. ap read (put.others r ne); long = put.long }
 
-  six_other : (r f : ℕ) → (r ≡ s → ⊥) → f < 6 → get_or (put_mid (6 * s) 6 xs six) (6 * r + f) 0 ≡ get_or xs (6 * r + f) 0
-  six_other r f ne l =
-      mid_outside xs six (6 * s) 6 room refl (6 * r + f) (⊎_elim (λ b. inl (omega arith)) (λ b. inr (omega arith)) (apart s r ne))
+pub telling_put : (xs zs : List ℕ) (s : ℕ) (t : Telling) (ys : List ℕ) → ys ≡ words_of_telling t → PartPut 7 xs zs s ys → TellingPut xs zs s t
+telling_put xs zs s t ys e put = put_read 7 telling_of_words xs zs s ys t (ap telling_of_words e) put
 
-  numbers_put_mid : NumbersPut xs (put_mid (6 * s) 6 xs six) s w
-  unfolding numbers_in
-  numbers_put_mid =
-      let at = λ (f : ℕ) (l : f < 6). mid_inside xs six (6 * s) 6 room refl f l in
-      record {
-        here =
-            let z : get_or (put_mid (6 * s) 6 xs six) (6 * s) 0 ≡ w.best = ap (λ i. get_or (put_mid (6 * s) 6 xs six) i 0) (omega arith) ∙ at 0 (omega arith) in
-            let a = at 1 (omega arith) in
-            let b = at 2 (omega arith) in
-            let c = at 3 (omega arith) in
-            let d = at 4 (omega arith) in
-            let e = at 5 (omega arith) in
-            let all : numbers_in (put_mid (6 * s) 6 xs six) s ≡
-            record { best = w.best; distance = w.distance; parent = w.parent; size = w.size; total = w.total; number = w.number } = cc in
-            all;
-        others = λ r ne.
-            let z : get_or (put_mid (6 * s) 6 xs six) (6 * r) 0 ≡ get_or xs (6 * r) 0 =
-            mid_outside xs six (6 * s) 6 room refl (6 * r) (⊎_elim (λ b. inl (omega arith)) (λ b. inr (omega arith)) (apart s r ne)) in
-            let a = six_other r 1 ne (omega arith) in
-            let b = six_other r 2 ne (omega arith) in
-            let c = six_other r 3 ne (omega arith) in
-            let d = six_other r 4 ne (omega arith) in
-            let e = six_other r 5 ne (omega arith) in
-            cc;
-        long = length-mid xs six (6 * s) 6 room refl;
-      }
-
-  pub numbers_put : (ys after : List ℕ) (n : ℕ) → ys ≡ six → n ≡ 6 → after ≡ put_mid (6 * s) n xs ys → NumbersPut xs after s w
-  numbers_put ys after n e f g =
-      subst (λ zs. NumbersPut xs zs s w) (sym (g ∙ ap (λ n. put_mid (6 * s) n xs ys) f ∙ ap (put_mid (6 * s) 6 xs) e)) numbers_put_mid
+pub numbers_put : (xs zs : List ℕ) (s : ℕ) (w : Numbers) (ys : List ℕ) → ys ≡ words_of_numbers w → PartPut 6 xs zs s ys → NumbersPut xs zs s w
+numbers_put xs zs s w ys e put = put_read 6 numbers_of_words xs zs s ys w (ap numbers_of_words e) put

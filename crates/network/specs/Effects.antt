@@ -40,6 +40,16 @@ with_number Total x w = record { best = w.best; distance = w.distance; parent = 
 with_number Number x w = record { best = w.best; distance = w.distance; parent = w.parent; size = w.size; total = w.total; number = x }
 with_number Given x w = w
 
+-- where a number stands among a telling's words, and a lamp's
+abbrev pub place_of : Field → ℕ
+place_of Best = 0
+place_of Distance = 1
+place_of Parent = 2
+place_of Size = 3
+place_of Total = 4
+place_of Number = 5
+place_of Given = 6
+
 -- has a lamp a number of this kind
 abbrev pub is_of_lamp : Field → Bool
 is_of_lamp Best = true

@@ -1,5 +1,5 @@
 -- The sequence that a seed begins, and what is drawn from it.
-use Rattle.std.specs.Prelude.{ℕ, zero, suc, ◌+◌, ◌*◌, ◌/◌, ◌%◌, ◌^◌}
+use Rattle.std.specs.Prelude.{ℕ, zero, suc, ◌+◌, ◌*◌, ◌/◌, ◌%◌, ◌^◌, List, [], ◌∷◌, ◌++◌}
 use Rattle.telling.specs.declared.Telling.{Telling}
 use Rattle.protocol.specs.declared.state.Numbers.{Numbers}
 
@@ -19,6 +19,11 @@ number_from s = draw_at (next_of s) * 65536 + draw_at (next_of (next_of s))
 abbrev pub after : ℕ → ℕ → ℕ
 after zero s = s
 after (suc k) s = next_of (next_of (after k s))
+
+-- so many numbers drawn next
+unfoldable pub numbers_drawn : ℕ → ℕ → List ℕ
+numbers_drawn zero s = []
+numbers_drawn (suc k) s = numbers_drawn k s ++ number_from (after k s) ∷ []
 
 -- the telling drawn next
 unfoldable pub telling_from : ℕ → Telling

@@ -12,7 +12,7 @@ use super::lent::Lent;
 use super::order::{all_doings, shuffle};
 use super::refusals::refusal_of;
 use super::state::State;
-use super::words::{NUMBERS, TELLING, numbers_in};
+use super::words::{NUMBERS, TELLING, part};
 use protocol::facts::WIRES;
 use protocol::state::Numbers;
 use std::alloc::{AllocError, Global};
@@ -103,6 +103,6 @@ impl State<'_, '_, '_, '_> {
         if !self.is_roomy(hall) || place as usize >= hall.sites().len() {
             return None;
         }
-        Some(numbers_in(self.lamps, place as usize))
+        Some(Numbers::from(part(self.lamps, place as usize)))
     }
 }

@@ -9,7 +9,7 @@ ghost use Rattle.network.specs.Turns.{Turns};
 
 use super::lent::Lent;
 use super::slots::{site, slot};
-use super::words::{put_telling, telling_in};
+use super::words::{part, put};
 use model::Doing;
 use protocol::facts::{Site, WIRES};
 use protocol::state::{Lamp, Work};
@@ -24,7 +24,7 @@ fn row(memories: &[u32], place: usize, wires: usize) -> [Telling; WIRES]
     let mut heard = [NOTHING; WIRES];
     // tried: nothing of what `array::from_fn` makes is known without a proof by hand over its closure
     for k in 0..wires {
-        heard[k] = telling_in(memories, WIRES * place + k);
+        heard[k] = Telling::from(part(memories, WIRES * place + k));
     }
     heard
 }
@@ -46,7 +46,7 @@ impl Lent<'_, '_, '_, '_, '_> {
             return;
         };
         if let Reading::Told(said) = self.reading(slot) {
-            put_telling(self.memories, slot, said);
+            put(self.memories, slot, said.into());
         }
     }
 

@@ -1,9 +1,6 @@
 // The sequence that a seed begins.
 ghost use Rattle.std.specs.Prelude.{◌≡◌, ◌<◌};
-ghost use Rattle.network.specs.Sequence.{next_of, draw_at, number_from, after, telling_from, numbers_from};
-
-use protocol::state::Numbers;
-use telling::Telling;
+ghost use Rattle.network.specs.Sequence.{next_of, draw_at, number_from, after, numbers_drawn};
 
 // Each state is the one before times this,
 const FACTOR: u32 = 1_664_525;
@@ -37,33 +34,15 @@ impl Draws {
         high * 65536 + low
     }
 
-    // The numbers of a lamp.
-    pub(crate) fn numbers(&mut self) -> Numbers
-        ensures value { result ≡ numbers_from self.old.state }
-        ensures next { self.new.state ≡ after 6 self.old.state }
+    // So many of them.
+    pub(crate) fn numbers<const N: usize>(&mut self) -> [u32; N]
+        ensures value { result ≡ numbers_drawn N self.old.state }
+        ensures next { self.new.state ≡ after N self.old.state }
     {
-        Numbers {
-            best: self.number(),
-            distance: self.number(),
-            parent: self.number(),
-            size: self.number(),
-            total: self.number(),
-            number: self.number(),
+        let mut numbers = [0; N];
+        for k in 0..N {
+            numbers[k] = self.number();
         }
-    }
-
-    pub(crate) fn telling(&mut self) -> Telling
-        ensures value { result ≡ telling_from self.old.state }
-        ensures next { self.new.state ≡ after 7 self.old.state }
-    {
-        Telling {
-            best: self.number(),
-            distance: self.number(),
-            parent: self.number(),
-            size: self.number(),
-            total: self.number(),
-            number: self.number(),
-            given: self.number(),
-        }
+        numbers
     }
 }

@@ -7,7 +7,7 @@ ghost use Rattle.network.specs.Turns.{Turns};
 
 use super::lent::Lent;
 use super::slots::slot;
-use super::words::{numbers_in, put_numbers, put_telling, telling_in};
+use super::words::{part, put};
 use protocol::state::Numbers;
 use telling::Telling;
 use telling::frame::Reading;
@@ -18,7 +18,7 @@ impl Lent<'_, '_, '_, '_, '_> {
         requires { slot < 16 * (hall_of self.now.hall.now).count }
         ensures { result ≡ telling_in self.now.memories.now slot }
     {
-        telling_in(self.memories, slot)
+        Telling::from(part(self.memories, slot))
     }
 
     // What lies on the wire of a slot.
@@ -27,7 +27,7 @@ impl Lent<'_, '_, '_, '_, '_> {
         ensures { result ≡ reading_in self.now.wires.now self.now.noise.now slot }
     {
         if self.noise[slot] == 0 {
-            Reading::Told(telling_in(self.wires, slot))
+            Reading::Told(Telling::from(part(self.wires, slot)))
         } else {
             Reading::Noise
         }
@@ -38,7 +38,7 @@ impl Lent<'_, '_, '_, '_, '_> {
         requires { place < (hall_of self.now.hall.now).count }
         ensures { result ≡ numbers_in self.now.lamps.now place }
     {
-        numbers_in(self.lamps, place)
+        Numbers::from(part(self.lamps, place))
     }
 
     // A lamp remembers this of another one, where they are wired.
@@ -46,7 +46,7 @@ impl Lent<'_, '_, '_, '_, '_> {
         ensures { Turns self.old self.new (remembering by of said) }
     {
         if let Some(slot) = slot(self.hall, by, of) {
-            put_telling(self.memories, slot, said);
+            put(self.memories, slot, said.into());
         }
     }
 
@@ -57,7 +57,7 @@ impl Lent<'_, '_, '_, '_, '_> {
         if let Some(slot) = slot(self.hall, to, from) {
             match reading {
                 Reading::Told(said) => {
-                    put_telling(self.wires, slot, said);
+                    put(self.wires, slot, said.into());
                     self.noise[slot] = 0;
                 }
                 Reading::Noise => self.noise[slot] = 1,
@@ -71,7 +71,7 @@ impl Lent<'_, '_, '_, '_, '_> {
     {
         let place = place as usize;
         if place < self.hall.sites().len() {
-            put_numbers(self.lamps, place, numbers);
+            put(self.lamps, place, numbers.into());
         }
     }
 }

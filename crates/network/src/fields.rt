@@ -1,8 +1,8 @@
 // Single numbers, set.
-ghost use Rattle.std.specs.Prelude.{◌≡◌};
+ghost use Rattle.std.specs.Prelude.{◌≡◌, slice_set};
 ghost use Rattle.telling.specs.declared.frame.Reading.TheVariants.{Told};
 ghost use Rattle.model.specs.Nets.{remembering, laid, noted};
-ghost use Rattle.network.specs.Effects.{with_field, with_number, is_of_lamp, or_zeros};
+ghost use Rattle.network.specs.Effects.{with_field, with_number, place_of, is_of_lamp, or_zeros};
 ghost use Rattle.network.specs.Turns.{Turns};
 
 use super::commands::Field;
@@ -13,47 +13,15 @@ use telling::frame::Reading;
 use telling::{NOTHING, Telling};
 
 impl Field {
-    fn set_in(self, said: Telling, n: u32) -> Telling
-        ensures { result ≡ with_field self n said }
+    // Words with this number set, where they have it.
+    fn set_in<const N: usize>(self, mut words: [u32; N], n: u32) -> [u32; N]
+        ensures { result ≡ slice_set words.entry (place_of self) n }
     {
-        match self {
-            Field::Best => Telling { best: n, ..said },
-            Field::Distance => Telling {
-                distance: n,
-                ..said
-            },
-            Field::Parent => Telling { parent: n, ..said },
-            Field::Size => Telling { size: n, ..said },
-            Field::Total => Telling { total: n, ..said },
-            Field::Number => Telling { number: n, ..said },
-            Field::Given => Telling { given: n, ..said },
+        let k = self as usize;
+        if k < N {
+            words[k] = n;
         }
-    }
-
-    fn set_of(self, numbers: Numbers, n: u32) -> Numbers
-        ensures { result ≡ with_number self n numbers }
-    {
-        match self {
-            Field::Best => Numbers { best: n, ..numbers },
-            Field::Distance => Numbers {
-                distance: n,
-                ..numbers
-            },
-            Field::Parent => Numbers {
-                parent: n,
-                ..numbers
-            },
-            Field::Size => Numbers { size: n, ..numbers },
-            Field::Total => Numbers {
-                total: n,
-                ..numbers
-            },
-            Field::Number => Numbers {
-                number: n,
-                ..numbers
-            },
-            Field::Given => numbers,
-        }
+        words
     }
 
     // Whether a lamp has such a number.
@@ -81,7 +49,7 @@ impl Lent<'_, '_, '_, '_, '_> {
     {
         if let Some(slot) = slot(self.hall, by, of) {
             let said = self.memory(slot);
-            self.remember(by, of, field.set_in(said, n));
+            self.remember(by, of, Telling::from(field.set_in(said.into(), n)));
         }
     }
 
@@ -91,7 +59,8 @@ impl Lent<'_, '_, '_, '_, '_> {
     {
         if let Some(slot) = slot(self.hall, to, from) {
             let said = or_zeros(self.reading(slot));
-            self.lay(from, to, Reading::Told(field.set_in(said, n)));
+            let said = Telling::from(field.set_in(said.into(), n));
+            self.lay(from, to, Reading::Told(said));
         }
     }
 
@@ -101,7 +70,7 @@ impl Lent<'_, '_, '_, '_, '_> {
     {
         if (place as usize) < self.hall.sites().len() {
             let numbers = self.numbers(place as usize);
-            self.note(place, field.set_of(numbers, n));
+            self.note(place, Numbers::from(field.set_in(numbers.into(), n)));
         }
     }
 }

@@ -6,6 +6,8 @@ ghost use Rattle.network.specs.Turns.{Turns, TurnsDrawn};
 use super::draws::Draws;
 use super::lent::Lent;
 use model::Doing;
+use protocol::state::Numbers;
+use telling::Telling;
 use telling::frame::Reading;
 
 impl Lent<'_, '_, '_, '_, '_> {
@@ -15,7 +17,7 @@ impl Lent<'_, '_, '_, '_, '_> {
     {
         for doing in doings {
             if let Doing::Hear(by, of) = *doing {
-                self.remember(by, of, draws.telling());
+                self.remember(by, of, Telling::from(draws.numbers()));
             }
         }
     }
@@ -26,7 +28,7 @@ impl Lent<'_, '_, '_, '_, '_> {
     {
         for doing in doings {
             if let Doing::Hear(from, to) = *doing {
-                self.lay(from, to, Reading::Told(draws.telling()));
+                self.lay(from, to, Reading::Told(Telling::from(draws.numbers())));
             }
         }
     }
@@ -37,7 +39,7 @@ impl Lent<'_, '_, '_, '_, '_> {
     {
         for doing in doings {
             if let Doing::Work(place) = *doing {
-                self.note(place, draws.numbers());
+                self.note(place, Numbers::from(draws.numbers()));
             }
         }
     }

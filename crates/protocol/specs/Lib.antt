@@ -4,3 +4,4 @@ pub mod Rules
 pub mod Hearing
 pub mod Works
 pub mod Memories
+pub mod Words

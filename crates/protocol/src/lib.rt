@@ -1,6 +1,7 @@
 // A lamp: what it knows of itself, what it remembers of its neighbours, what it works out from that and tells them.
 #![tactic(auto)]
 
+mod conversions;
 pub mod facts;
 pub mod recall;
 pub mod sites;

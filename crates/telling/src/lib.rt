@@ -4,6 +4,7 @@
 ghost use Rattle.std.specs.Prelude.{◌≡◌, ◌+◌, ◌<◌, length};
 ghost use Rattle.telling.specs.Layout.{word_at, bytes_of, telling_of};
 
+mod conversions;
 pub mod fault;
 pub mod frame;
 pub mod memory;

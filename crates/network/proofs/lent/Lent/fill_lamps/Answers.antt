@@ -2,6 +2,7 @@ use Rattle.std.proofs.Common.{get_or}
 use Rattle.model.specs.declared.Doing.TheVariants.{Work}
 use Rattle.network.specs.Parts.{Lamps}
 use Rattle.network.proofs.Fillings.{lamp_drawn, no_lamp_drawn, drawn_more}
+use Rattle.network.proofs.Numbers.{numbers_of_drawn}
 use Rattle.network.proofs.lent.Lent.fill_lamps.Goals as goal
 use Rattle.network.proofs.lent.Lent.fill_lamps.Goals.{in-Work, in_default}
 
@@ -15,6 +16,6 @@ loop-doing-preserved c =
     (elim c.match-doing.branch [
       | in-Work w ↦
           rw (w.self-is, w.draws-is)
-          (lamp_drawn l w.note.new.self s w.numbers.new.self.state d w.in-Work.place w.numbers.result w.in-Work.is w.numbers.ensures.value w.numbers.ensures.next w.note.ensures)
+          (lamp_drawn l w.note.new.self s w.numbers.new.self.state d w.in-Work.place w.from.result w.in-Work.is (numbers_of_drawn s w.numbers.result w.from.result w.numbers.ensures.value w.from.ensures) w.numbers.ensures.next w.note.ensures)
       | in_default w ↦ rw (w.self-is, w.draws-is) (no_lamp_drawn l s d w.in_default.field-0 w.in_default.field-1 w.in_default.is)
     ])

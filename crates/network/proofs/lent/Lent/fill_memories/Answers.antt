@@ -2,6 +2,7 @@ use Rattle.std.proofs.Common.{get_or}
 use Rattle.model.specs.declared.Doing.TheVariants.{Work}
 use Rattle.network.specs.Parts.{Memories}
 use Rattle.network.proofs.Fillings.{memory_drawn, no_memory_drawn, drawn_more}
+use Rattle.network.proofs.Numbers.{telling_drawn}
 use Rattle.network.proofs.lent.Lent.fill_memories.Goals as goal
 use Rattle.network.proofs.lent.Lent.fill_memories.Goals.{in-Hear, in_default}
 
@@ -15,6 +16,6 @@ loop-doing-preserved c =
     (elim c.match-doing.branch [
       | in-Hear w ↦
           rw (w.self-is, w.draws-is)
-          (memory_drawn l w.remember.new.self s w.telling.new.self.state d w.in-Hear.by w.in-Hear.of w.telling.result w.in-Hear.is w.telling.ensures.value w.telling.ensures.next w.remember.ensures)
+          (memory_drawn l w.remember.new.self s w.numbers.new.self.state d w.in-Hear.by w.in-Hear.of w.from.result w.in-Hear.is (telling_drawn s w.numbers.result w.from.result w.numbers.ensures.value w.from.ensures) w.numbers.ensures.next w.remember.ensures)
       | in_default w ↦ rw (w.self-is, w.draws-is) (no_memory_drawn l s d w.in_default.field-0 w.in_default.is)
     ])

@@ -2,6 +2,7 @@ use Rattle.std.proofs.Common.{get_or}
 use Rattle.model.specs.declared.Doing.TheVariants.{Work}
 use Rattle.network.specs.Parts.{Wires}
 use Rattle.network.proofs.Fillings.{wire_drawn, no_wire_drawn, drawn_more}
+use Rattle.network.proofs.Numbers.{telling_drawn}
 use Rattle.network.proofs.lent.Lent.fill_wires.Goals as goal
 use Rattle.network.proofs.lent.Lent.fill_wires.Goals.{in-Hear, in_default}
 
@@ -15,6 +16,6 @@ loop-doing-preserved c =
     (elim c.match-doing.branch [
       | in-Hear w ↦
           rw (w.self-is, w.draws-is)
-          (wire_drawn l w.lay.new.self s w.telling.new.self.state d w.in-Hear.from w.in-Hear.to w.telling.result w.in-Hear.is w.telling.ensures.value w.telling.ensures.next w.lay.ensures)
+          (wire_drawn l w.lay.new.self s w.numbers.new.self.state d w.in-Hear.from w.in-Hear.to w.from.result w.in-Hear.is (telling_drawn s w.numbers.result w.from.result w.numbers.ensures.value w.from.ensures) w.numbers.ensures.next w.lay.ensures)
       | in_default w ↦ rw (w.self-is, w.draws-is) (no_wire_drawn l s d w.in_default.field-0 w.in_default.is)
     ])

@@ -1,5 +1,6 @@
 use Rattle.std.proofs.Common.{refl, rules}
 use Rattle.network.specs.Turns.{state_in}
+use Rattle.network.proofs.Overwrites.{telling_put}
 use Rattle.network.proofs.Changes.{same_memories, other_memories}
 use Rattle.network.proofs.lent.Lent.remember.Goals as goal
 
@@ -8,7 +9,7 @@ returns-in-Some c =
     let l = c.args.self.now in
     record {
       lent = search rules;
-      becomes = other_memories l.hall.now (state_in l) l.roomy _ refl refl refl c.args.by c.args.of c.in-Some.slot c.args.said c.in-Some.ensures.found c.put_telling.ensures;
+      becomes = other_memories l.hall.now (state_in l) l.roomy _ refl refl refl c.args.by c.args.of c.in-Some.slot c.args.said c.in-Some.ensures.found (telling_put _ _ c.in-Some.slot c.args.said c.into.result c.into.ensures c.put.ensures);
     }
 
 pub returns-in_default : goal.returns-in_default

@@ -4,6 +4,7 @@ use Rattle.model.specs.Nets.{remembering}
 use Rattle.network.specs.Effects.{with_field}
 use Rattle.network.specs.Turns.{state_in}
 use Rattle.network.proofs.Changes.{become_as, same_as, same_memories, heard_at}
+use Rattle.network.proofs.Numbers.{telling_set}
 use Rattle.network.proofs.lent.Lent.set_memory.Goals as goal
 
 pub returns-in-Some : goal.returns-in-Some
@@ -14,7 +15,7 @@ returns-in-Some c =
       becomes =
           become_as (hall_of l.hall.now) (state_in l) (remembering c.args.by c.args.of) (λ n. with_field c.args.field c.args.n (n.heard c.args.by c.args.of)) (state_in c.remember.new.self) _
           (λ n stands.
-          c.set_in.ensures ∙ ap (with_field c.args.field c.args.n) (c.memory-said.ensures ∙ heard_at l.hall.now (state_in l) l.roomy n stands c.args.by c.args.of c.in-Some.slot c.in-Some.ensures.found))
+          telling_set c.args.field c.args.n c.memory-said.result c.from.result c.into.result c.set_in.result c.into.ensures c.set_in.ensures c.from.ensures ∙ ap (with_field c.args.field c.args.n) (c.memory-said.ensures ∙ heard_at l.hall.now (state_in l) l.roomy n stands c.args.by c.args.of c.in-Some.slot c.in-Some.ensures.found))
           c.remember.ensures.becomes;
     }
 
