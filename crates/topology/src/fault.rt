@@ -1,6 +1,6 @@
 // Why there is no topology.
-use std::alloc::AllocError;
 use std::fmt;
+use telling::fault::Fault;
 
 #[derive(Clone, Copy, PartialEq, Eq, Debug)]
 pub enum Reason {
@@ -78,30 +78,13 @@ impl fmt::Display for Refused {
     }
 }
 
-#[derive(Clone, Copy)]
-pub enum Fault {
-    OutOfMemory,
-    Refused(Refused),
-}
-
-impl From<AllocError> for Fault {
+impl From<Refused> for Fault<Refused> {
     ghost use Rattle.std.specs.Prelude.{◌≡◌};
-    ghost use Rattle.topology.specs.declared.fault.Fault.TheVariants.{OutOfMemory};
-
-    ghost from_gives = { λ _ fault. fault ≡ OutOfMemory };
-
-    fn from(_e: AllocError) -> Fault {
-        Fault::OutOfMemory
-    }
-}
-
-impl From<Refused> for Fault {
-    ghost use Rattle.std.specs.Prelude.{◌≡◌};
-    ghost use Rattle.topology.specs.declared.fault.Fault.TheVariants as fault;
+    ghost use Rattle.telling.specs.declared.fault.Fault.TheVariants as fault;
 
     ghost from_gives = { λ refused r. r ≡ fault.Refused refused };
 
-    fn from(refused: Refused) -> Fault {
+    fn from(refused: Refused) -> Fault<Refused> {
         Fault::Refused(refused)
     }
 }

@@ -3,17 +3,18 @@ ghost use Rattle.std.specs.Prelude.{◌≡◌};
 ghost use Rattle.topology.specs.Reading.{ReadAs, AcceptedIsSound};
 
 use super::checks::{check_names, check_order, check_wires};
-use super::fault::{Fault, Reason, Refused};
+use super::fault::{Reason, Refused};
 use super::hall::Topology;
 use super::lines::Line;
 use super::plan::{Plan, names_in};
 use super::reach::hang_together;
 use protocol::facts::Site;
 use std::alloc::Global;
+use telling::fault::Fault;
 
 impl Topology {
     // The topology that the lines of a hall file describe.
-    pub fn of(heap: Global, lines: &[Line]) -> Result<Topology, Fault>
+    pub fn of(heap: Global, lines: &[Line]) -> Result<Topology, Fault<Refused>>
         ensures { ReadAs lines.now result }
     {
         let most = check_order(lines)?;
@@ -24,7 +25,7 @@ impl Topology {
         Topology::build(heap, &Plan { most, names, lines })
     }
 
-    fn build(heap: Global, plan: &Plan) -> Result<Topology, Fault>
+    fn build(heap: Global, plan: &Plan) -> Result<Topology, Fault<Refused>>
         ensures { ReadAs plan.now.lines.now result }
     {
         let Some(sites) = plan.sites(heap)? else {

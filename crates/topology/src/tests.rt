@@ -1,10 +1,10 @@
-use super::fault::Fault;
 use super::hall::Topology;
 use super::lines::Line;
 use super::lines::Line::{Lamp, Most, Unknown, Wire};
 use std::alloc::{AllocError, Global};
 use std::process::Abort;
 use std::test::Fail;
+use telling::fault::Fault;
 
 // A lamp in the middle, wired to each of the others.
 fn star(heap: Global, arms: u8) -> Result<Vec<Line>, AllocError> {
