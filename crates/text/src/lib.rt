@@ -2,11 +2,11 @@
 // A line may hold any bytes, so all of it is over bytes and not over text.
 #![tactic(auto)]
 
-ghost use Rattle.std.specs.Prelude.{◌≡◌, ◌<◌, ◌∷◌, ◌++◌, IfOk, vec_items, string_bytes};
+ghost use Rattle.std.specs.Prelude.{◌≡◌, ◌<◌, ◌∷◌, ◌++◌, IfOk, MatchOption, vec_items, string_bytes};
 ghost use Rattle.std.specs.Option.{option_map};
 ghost use Rattle.text.specs.Decimal.{number_of, with_digit};
 ghost use Rattle.text.specs.Hex.{hex_digit, hex_of, hex_value, join_digits, bytes_of, ReadsBack, WrittenSo};
-ghost use Rattle.text.specs.Words.{line_of, first_word, rest_of, words_of, words_behind, space_and, Spaceless};
+ghost use Rattle.text.specs.Words.{line_of, FirstAt, NoneIs, up_to, past, first_word, rest_of, words_of, words_behind, space_and, Spaceless};
 
 use std::alloc::{AllocError, Global};
 
@@ -100,6 +100,24 @@ pub fn line_of(read: &[u8]) -> &[u8]
     }
 }
 
+// Where the first byte of a kind stands.
+fn first_at(bytes: &[u8], end: u8) -> Option<usize>
+    ensures { MatchOption result (NoneIs end bytes.now) (FirstAt end bytes.now) }
+{
+    bytes.iter().position(|b| *b == end)
+}
+
+// What stands before the first byte of a kind and, where there is one, what stands behind it.
+pub fn cut_at(bytes: &[u8], end: u8) -> (&[u8], Option<&[u8]>)
+    ensures before { result.0.now ≡ up_to end bytes.now }
+    ensures behind { option_map (λ x. x.now) result.1 ≡ past end bytes.now }
+{
+    match first_at(bytes, end) {
+        Some(i) => (&bytes[0..i], Some(&bytes[i + 1..])),
+        None => (bytes, None),
+    }
+}
+
 // The first word of a line and, where a space ends it, what stands behind that space.
 pub fn cut(line: &[u8]) -> (&[u8], Option<&[u8]>)
     ensures word { result.0.now ≡ first_word line.now }
@@ -108,12 +126,7 @@ pub fn cut(line: &[u8]) -> (&[u8], Option<&[u8]>)
     ensures whole { line.now ≡ result.0.now ++ space_and (option_map (λ x. x.now) result.1) }
     ensures spaceless { Spaceless result.0.now }
 {
-    for (i, b) in line.iter().enumerate() {
-        if *b == b' ' {
-            return (&line[0..i], Some(&line[i + 1..]));
-        }
-    }
-    (line, None)
+    cut_at(line, b' ')
 }
 
 // Bytes that are written in hexadecimal are read back as they were.
