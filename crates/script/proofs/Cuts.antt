@@ -1,50 +1,42 @@
 -- A text, cut into its lines one by one.
-use Rattle.std.proofs.Common.{◌≡◌, ℕ, ◌+◌, ◌<◌, ◌≤◌, List, [], ◌∷◌, ◌++◌, map, length, get_or, take, drop, sym, refl, ap, ◌∙◌, append_assoc, append-nil, arith}
-use Rattle.std.proofs.lemmas.List.{at_drop_more, at_drop_all, take_all, take_more, nil_from_length}
-use Rattle.std.proofs.lemmas.Bool.{cond-true, cond-false, eq-eqb, ne_eqb}
+use Rattle.std.proofs.Common.{◌≡◌, ℕ, ◌<◌, true, false, cond, eqb, List, [], ◌∷◌, ◌++◌, map, length, Some, None, Option, unwrap_or, Bor, sym, refl, ap, ◌∙◌, append_assoc, append-nil, arith}
+use Rattle.std.specs.Option.{option_map}
+use Rattle.std.proofs.lemmas.List.{nil_from_length}
+use Rattle.text.specs.Words.{up_to, past}
 use Rattle.script.specs.Lines.{on_first, lines_of}
 
--- bytes in front of the first line
-abbrev pub ahead : List ℕ → List (List ℕ) → List (List ℕ)
-ahead [] lines = lines
-ahead (c ∷ cs) lines = on_first c (ahead cs lines)
+-- the lines of what stands behind a line feed, if there is one
+abbrev pub lines_behind : Option (List ℕ) → List (List ℕ)
+lines_behind None = []
+lines_behind (Some cs) = lines_of cs
 
-ahead_more : (cs : List ℕ) (c : ℕ) (lines : List (List ℕ)) → ahead (cs ++ c ∷ []) lines ≡ ahead cs (on_first c lines)
-ahead_more [] c lines = refl
-ahead_more (d ∷ cs) c lines = ap (on_first d) (ahead_more cs c lines)
+pub first_line : (text : List ℕ) → 0 < length text → lines_of text ≡ up_to 10 text ∷ lines_behind (past 10 text)
+unfolding lines_of up_to past
+first_line [] l = absurd (omega arith)
+first_line (c ∷ []) l = elim (eqb c 10) as (λ v. cond v ([] ∷ []) ((c ∷ []) ∷ []) ≡ cond v [] (c ∷ []) ∷ lines_behind (cond v (Some []) None)) [ true ↦ refl | false ↦ refl ]
+first_line (c ∷ d ∷ cs) l =
+    let on = first_line (d ∷ cs) (omega arith) in
+    elim (eqb c 10)
+    as (λ v. cond v ([] ∷ lines_of (d ∷ cs)) (on_first c (lines_of (d ∷ cs))) ≡ cond v [] (c ∷ up_to 10 (d ∷ cs)) ∷ lines_behind (cond v (Some (d ∷ cs)) (past 10 (d ∷ cs))))
+    [ true ↦ refl | false ↦ ap (on_first c) on ]
 
-ahead_line : (cs line : List ℕ) (lines : List (List ℕ)) → ahead cs (line ∷ lines) ≡ (cs ++ line) ∷ lines
-ahead_line [] line lines = refl
-ahead_line (c ∷ cs) line lines = ap (on_first c) (ahead_line cs line lines)
-
-ahead_none : (cs : List ℕ) → 0 < length cs → ahead cs [] ≡ cs ∷ []
-ahead_none [] l = absurd (omega arith)
-ahead_none (c ∷ []) l = refl
-ahead_none (c ∷ d ∷ cs) l = ap (on_first c) (ahead_none (d ∷ cs) (omega arith))
-
--- the first i bytes of a text have no line feed
-abbrev pub Passed : List ℕ → ℕ → Type 0
-Passed text i = lines_of text ≡ ahead (take i text) (lines_of (drop i text))
-
-pub passed_more : (text : List ℕ) (i : ℕ) → i < length text → (get_or text i 0 ≡ 10 → ⊥) → Passed text i → Passed text (i + 1)
+-- what is left of a text behind its first line has the other lines, and is shorter
+pub lines_left : (o : Option (List ℕ)) → lines_behind o ≡ lines_of (unwrap_or o [])
 unfolding lines_of
-passed_more text i l ne p =
-    p ∙ ap (ahead (take i text)) (at_drop_more lines_of text i 0 l ∙ cond-false _ _ _ (ne_eqb (get_or text i 0) 10 ne))
-    ∙ sym (ahead_more (take i text) (get_or text i 0) (lines_of (drop (i + 1) text)))
-    ∙ ap (λ cs. ahead cs (lines_of (drop (i + 1) text))) (sym (take_more text i 0 l))
+lines_left None = refl
+lines_left (Some cs) = refl
 
--- the cut at a line feed, and at the end
-pub cut_here : (text : List ℕ) (i : ℕ) → i < length text → get_or text i 0 ≡ 10 → Passed text i → lines_of text ≡ take i text ∷ lines_of (drop (i + 1) text)
-unfolding lines_of
-cut_here text i l e p =
-    p ∙ ap (ahead (take i text)) (at_drop_more lines_of text i 0 l ∙ cond-true _ _ _ (eq-eqb (get_or text i 0) 10 e))
-    ∙ ahead_line (take i text) [] (lines_of (drop (i + 1) text))
-    ∙ ap (λ line. line ∷ lines_of (drop (i + 1) text)) (append-nil (take i text))
+pub left_shorter : (end : ℕ) (text : List ℕ) → 0 < length text → length (unwrap_or (past end text) []) < length text
+unfolding past
+left_shorter end [] l = absurd (omega arith)
+left_shorter end (c ∷ []) l = elim (eqb c end) as (λ v. length {A = ℕ} (unwrap_or (cond v (Some []) None) []) < length (c ∷ [])) [ true ↦ omega arith | false ↦ omega arith ]
+left_shorter end (c ∷ d ∷ cs) l =
+    let on = left_shorter end (d ∷ cs) (omega arith) in
+    elim (eqb c end) as (λ v. length (unwrap_or (cond v (Some (d ∷ cs)) (past end (d ∷ cs))) []) < length (c ∷ d ∷ cs)) [ true ↦ omega arith | false ↦ omega (arith, on) ]
 
-pub cut_end : (text : List ℕ) (i : ℕ) → 0 < length text → length text ≤ i → Passed text i → lines_of text ≡ text ∷ lines_of []
-unfolding lines_of
-cut_end text i some l p =
-    p ∙ ap (ahead (take i text)) (at_drop_all lines_of text i l) ∙ ap (λ cs. ahead cs []) (take_all i text l) ∙ ahead_none text some
+pub now_left : (o : Option (Bor (List ℕ))) (d : Bor (List ℕ)) → (unwrap_or o d).now ≡ unwrap_or (option_map (λ x. x.now) o) d.now
+now_left None d = refl
+now_left (Some x) d = refl
 
 -- what was read of the lines so far, in front of what those that are left say
 module _ {X : Type 0} (said : List ℕ → X) {whole : List X} (front : List X) (rest : List ℕ) (so_far : front ++ map said (lines_of rest) ≡ whole) where

@@ -4,6 +4,7 @@ ghost use Rattle.text.specs.Words.{words_of};
 ghost use Rattle.script.specs.Lines.{lines_of};
 
 use std::alloc::{AllocError, Global};
+use text::cut_at;
 
 // What a line says, by its words.
 pub trait Said: Sized {
@@ -33,10 +34,6 @@ fn next_line(text: &[u8]) -> (&[u8], &[u8])
     ensures lines { lines_of text.now ≡ result.0.now ∷ lines_of result.1.now }
     ensures shorter { length result.1.now < length text.now }
 {
-    for (i, b) in text.iter().enumerate() {
-        if *b == b'\n' {
-            return (&text[0..i], &text[i + 1..]);
-        }
-    }
-    (text, &[])
+    let (line, after) = cut_at(text, b'\n');
+    (line, after.unwrap_or(&[]))
 }

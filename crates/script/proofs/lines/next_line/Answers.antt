@@ -1,20 +1,17 @@
-use native.Mathlib.Nat.{sub-zero}
-use Rattle.std.proofs.Common.{arith, length-drop}
-use Rattle.std.proofs.lemmas.List.{take_rest}
-use Rattle.script.proofs.Cuts.{passed_more, cut_here, cut_end}
+use Rattle.std.proofs.Common.{◌≡◌, ◌<◌, ◌∷◌, [], length, unwrap_or, sym, subst, ap, ◌∙◌}
+use Rattle.text.specs.Words.{past}
+use Rattle.script.specs.Lines.{lines_of}
+use Rattle.script.proofs.Cuts.{lines_behind, first_line, lines_left, left_shorter, now_left}
 use Rattle.script.proofs.lines.next_line.Goals as goal
 
-pub returns-then-b-eq10 : goal.returns-then-b-eq10
-returns-then-b-eq10 c = record {
-  lines = simp (sub-zero, take_rest) (cut_here c.args.text.now c.loop-i.i c.loop-i-test.true c.if-b-eq10.true c.loop-i.invariant);
-  shorter = simp (take_rest, length-drop) (omega (arith, c.loop-i-test.true));
-}
-
-pub loop-i-preserved : goal.loop-i-preserved
-loop-i-preserved c = passed_more c.args.text.now c.loop-i.i c.loop-i-test.true c.if-b-eq10.false c.loop-i.invariant
-
 pub returns : goal.returns
-returns c = record {
-  lines = cut_end c.args.text.now c.loop-i.i c.requires c.loop-i-test.false c.loop-i.invariant;
-  shorter = c.requires;
-}
+returns c =
+    let text = c.args.text.now in
+    let left : c.unwrap_or.result.now ≡ unwrap_or (past 10 text) [] =
+    ap (λ r. r.now) c.unwrap_or.ensures ∙ now_left c.cut_at.result.1 _ ∙ ap (λ o. unwrap_or o []) c.cut_at.ensures.behind in
+    record {
+      lines =
+          first_line text c.requires ∙ ap (λ line. line ∷ lines_behind (past 10 text)) (sym c.cut_at.ensures.before) ∙
+          ap (λ lines. c.cut_at.result.0.now ∷ lines) (lines_left (past 10 text) ∙ ap lines_of (sym left));
+      shorter = subst (λ rest. length rest < length text) (sym left) (left_shorter 10 text c.requires);
+    }
