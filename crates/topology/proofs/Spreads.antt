@@ -1,8 +1,7 @@
 -- A pass that reaches lamps whose neighbours are reached.
-use Rattle.std.proofs.Common.{◌≡◌, ℕ, zero, suc, ◌+◌, ◌<◌, ◌≤◌, Bool, true, false, cond, not, ◌&&◌, ◌||◌, eqb, List, [], ◌∷◌, length, get_or, set, replicate, sym, refl, ap, ◌∙◌, subst, ⊎_elim, arith, below_more}
-use Rattle.std.proofs.Math.Bool.{beq}
+use Rattle.std.proofs.Common.{◌≡◌, ℕ, zero, suc, ◌+◌, ◌<◌, ◌≤◌, Bool, true, false, cond, not, ◌&&◌, ◌||◌, eqb, MatchBool, List, [], ◌∷◌, length, get_or, set, replicate, sym, refl, ap, ◌∙◌, subst, ⊎_elim, arith, below_more}
 use mathlib.Core.Bool.{or-true, or-false}
-use Rattle.std.specs.List.{IsAnyAnswer, list_any}
+use Rattle.std.specs.List.{AllWithin, HoldsAt, list_any}
 use Rattle.std.proofs.lemmas.List.Recursion.{same_from_clauses}
 use Rattle.std.proofs.lemmas.List.{get_or_read, get_or-map, get_or-set_same, get_or-set_other, length-set, length-replicate, get_or-replicate, get_or_past}
 use Rattle.std.proofs.lemmas.List.Sums.{sum_by-set}
@@ -165,18 +164,12 @@ module _ (sites : List Site) where
           HangTogether (hall_in most sites) → ⊥
       not_joined closed first k l e joined = joined 0 k (some, l, λ n w. both_ways _ e (way_reached closed first n w))
 
-  -- what a comparison with `false` tells
-  unreached_so : (b t : Bool) → beq b false ≡ t → b ≡ not t
-  unreached_so true t e = ap not e
-  unreached_so false t e = ap not e
-
-  -- where a pass came to nothing new, the search for a lamp that is not reached tells
+  -- where a pass came to nothing new, it is told by whether all are reached
   module _ (some : 1 ≤ length sites) (within : WiresWithin (hall_in 0 sites)) (both : WiredBothWays (hall_in 0 sites)) (reached : List Bool) where
     module _ (full : length reached ≡ length sites) (first : is_reached reached 0 ≡ true) where
       module _ (ways : (most : ℕ) → Reachable (hall_in most sites) reached) (closed : NoneNext sites reached (length sites)) where
-        pub whether_joined : (left : Bool) → IsAnyAnswer (λ b t. beq b false ≡ t) reached left → WhetherJoined sites (not left)
-        whether_joined true found most =
-            not_joined some reached most within both closed first found.0 (omega (arith, found.1)) (unreached_so _ true (found.2 false))
-        whether_joined false none most =
-            all_joined some reached most within both (ways most)
-            (λ i l. unreached_so _ false (none i false (omega arith) (omega arith)))
+        pub whether_joined :
+            (all : Bool) → MatchBool all (AllWithin (λ b. b ≡ true) reached 0 (length reached)) ((k : ℕ) × (k < length reached) × HoldsAt (λ b. b ≡ false) reached k) →
+            WhetherJoined sites all
+        whether_joined true all most = all_joined some reached most within both (ways most) (λ i l. all i false (omega arith) (omega arith))
+        whether_joined false missed most = not_joined some reached most within both closed first missed.0 (omega (arith, missed.1)) (missed.2 false)

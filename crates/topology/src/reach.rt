@@ -50,5 +50,5 @@ pub(crate) fn hang_together(heap: Global, sites: &[Site]) -> Result<bool, AllocE
     let reached = reached.as_mut_slice();
     reached[0] = true;
     while spread(sites, reached) {}
-    Ok(!reached.contains(&false))
+    Ok(reached.iter().all(|on| *on))
 }

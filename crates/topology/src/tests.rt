@@ -1,3 +1,4 @@
+use super::fault::{Reason, Refused};
 use super::hall::Topology;
 use super::lines::Line;
 use super::lines::Line::{Lamp, Most, Unknown, Wire};
@@ -162,4 +163,23 @@ fn wires(rt: HostRuntime) -> Result<(), Fail> {
         Wire(0, 1),
     ];
     refused(&rt, heap, &lines, None, text)
+}
+
+#[test]
+fn texts(rt: HostRuntime) -> Result<(), Fail> {
+    let heap = rt.alloc();
+    let of_a_line = Refused {
+        line: Some(12),
+        reason: Reason::SameName,
+    };
+    assert_eq!(rt;
+        of_a_line.to_string(heap)?.as_str(),
+        "line 12: a name that another lamp has"
+    );
+    let of_all = Refused {
+        line: None,
+        reason: Reason::NoLamps,
+    };
+    assert_eq!(rt; of_all.to_string(heap)?.as_str(), "no lamps");
+    Ok(())
 }

@@ -1,4 +1,6 @@
 use Rattle.std.proofs.Common.{◌≡◌, true, false, length, set, replicate, sym, ap, ◌∙◌, subst, rules}
+use borrow.Author.Tests.{tests}
+use Rattle.std.proofs.lemmas.Iterator.{cases_from_all, YieldsList-from_slice}
 use Rattle.std.proofs.lemmas.List.{length-set, length-replicate}
 use Rattle.topology.specs.Lamps.{hall_in}
 use Rattle.topology.specs.Reach.{is_reached, Reachable}
@@ -9,16 +11,21 @@ pub loop-init : goal.loop-init
 loop-init c =
     let sites = c.args.sites.now in
     let none : replicate (length sites) false ≡ c.as_mut_slice-reached.result.now = search rules in
-    let first = ap (λ xs. set xs 0 true) none in (
-      length-set c.as_mut_slice-reached.result.now 0 true ∙ ap length (sym none) ∙ length-replicate (length sites) false,
-      subst (λ xs. is_reached xs 0 ≡ true) first (begun_first sites c.requires.some),
-      λ most. subst (Reachable (hall_in most sites)) first (begun sites c.requires.some most),
-    )
+    let first = ap (λ xs. set xs 0 true) none in
+    record {
+      full = length-set c.as_mut_slice-reached.result.now 0 true ∙ ap length (sym none) ∙ length-replicate (length sites) false;
+      first = subst (λ xs. is_reached xs 0 ≡ true) first (begun_first sites c.requires.some);
+      ways = λ most. subst (Reachable (hall_in most sites)) first (begun sites c.requires.some most);
+    }
 
 pub returns : goal.returns
 returns c =
     let pass = c.spread.ensures in
-    whether_joined c.args.sites.now c.requires.some c.requires.within c.requires.both c.spread.new.reached
-    (pass.long ∙ c.loop.invariant.0) (pass.kept 0 c.loop.invariant.1) (λ most. pass.ways most c.requires.both (c.loop.invariant.2 most))
-    (pass.settled c.loop-test.false).1
-    c.contains.result c.contains.ensures.cases
+    let before = c.loop.invariant in
+    let reached = c.spread.new.reached in
+    whether_joined c.args.sites.now c.requires.some c.requires.within c.requires.both reached
+    (pass.long ∙ before.full) (pass.kept 0 before.first) (λ most. pass.ways most c.requires.both (before.ways most))
+    (pass.settled c.loop-test.false).1 c.all.result (
+    cases_from_all _ _ c.all.result (λ on. on ≡ true) (λ on. on ≡ false) c.all.ensures.ran (YieldsList-from_slice reached cc)
+    (λ x q k. search (rules, tests)) (λ x q k. search (rules, tests))
+    )

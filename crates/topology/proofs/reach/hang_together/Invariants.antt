@@ -6,7 +6,11 @@ use Rattle.topology.proofs.reach.hang_together.Given as goal
 -- the first lamp is reached, and no lamp that cannot be
 abbrev pub invariant-loop : goal.invariant-loop
 invariant-loop l =
-    (length l.reached ≡ length l.sites) × (is_reached l.reached 0 ≡ true) × ((most : ℕ) → Reachable (hall_in most l.sites) l.reached)
+    record {
+      full : length l.reached ≡ length l.sites;
+      first : is_reached l.reached 0 ≡ true;
+      ways : (most : ℕ) → Reachable (hall_in most l.sites) l.reached;
+    }
 
 abbrev pub decreases-loop : goal.decreases-loop
 decreases-loop l = unreached l.reached
