@@ -1,6 +1,6 @@
 // The lines of a hall file.
 
-#[derive(Clone, Copy)]
+#[derive(Clone, Copy, PartialEq, Eq, Debug)]
 pub enum Line {
     // as many lamps as the hall may have
     Most(u32),
