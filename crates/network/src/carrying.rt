@@ -1,5 +1,5 @@
 // Carrying out commands.
-ghost use Rattle.std.specs.Prelude.{◌≡◌, MatchResult};
+ghost use Rattle.std.specs.Prelude.{◌≡◌, MatchResult, OnOk, OnErr};
 ghost use Rattle.model.specs.Nets.{ran};
 ghost use Rattle.topology.specs.Reading.{hall_of};
 ghost use Rattle.network.specs.Order.{doings_in, order_of};
@@ -11,6 +11,7 @@ use super::commands::Command;
 use super::lent::Lent;
 use super::order::{all_doings, shuffle};
 use super::refusals::refusal_of;
+use super::slots::hangs;
 use super::state::State;
 use super::words::{NUMBERS, TELLING, part};
 use protocol::facts::WIRES;
@@ -22,7 +23,8 @@ use topology::hall::Topology;
 
 impl Lent<'_, '_, '_, '_, '_> {
     fn fill_all(&mut self, heap: Global, seed: u32) -> Result<(), AllocError>
-        ensures { MatchResult result (λ _. Turns self.old self.new (all_filled (doings_in self.old.hall.now.sites.items) seed)) (λ _. self.new ≡ self.old) }
+        ensures ok { OnOk result (Turns self.old self.new (all_filled (doings_in self.old.hall.now.sites.items) seed)) }
+        ensures err { OnErr result (self.new ≡ self.old) }
     {
         let doings = all_doings(heap, self.hall.sites())?;
         self.fill(doings.as_slice(), seed);
@@ -31,7 +33,8 @@ impl Lent<'_, '_, '_, '_, '_> {
 
     // All works and all hearings once, in the order that a seed gives.
     fn round(&mut self, heap: Global, seed: u32) -> Result<(), AllocError>
-        ensures { MatchResult result (λ _. Turns self.old self.new (ran (hall_of self.old.hall.now) (order_of seed (doings_in self.old.hall.now.sites.items)))) (λ _. self.new ≡ self.old) }
+        ensures ok { OnOk result (Turns self.old self.new (ran (hall_of self.old.hall.now) (order_of seed (doings_in self.old.hall.now.sites.items)))) }
+        ensures err { OnErr result (self.new ≡ self.old) }
     {
         let mut doings = all_doings(heap, self.hall.sites())?;
         shuffle(doings.as_mut_slice(), seed);
@@ -41,7 +44,8 @@ impl Lent<'_, '_, '_, '_, '_> {
 
     // Does what a command that is not refused asks for.
     fn apply(&mut self, heap: Global, command: Command) -> Result<(), AllocError>
-        ensures { MatchResult result (λ _. Turns self.old self.new (effect_of (hall_of self.old.hall.now) self.old.hall.now.sites.items command)) (λ _. self.new ≡ self.old) }
+        ensures ok { OnOk result (Turns self.old self.new (effect_of (hall_of self.old.hall.now) self.old.hall.now.sites.items command)) }
+        ensures err { OnErr result (self.new ≡ self.old) }
     {
         match command {
             Command::Fill(seed) => self.fill_all(heap, seed)?,
@@ -100,7 +104,7 @@ impl State<'_, '_, '_, '_> {
     pub fn numbers_at(&self, hall: &Topology, place: u32) -> Option<Numbers>
         ensures { result ≡ numbers_at hall.now self.now place }
     {
-        if !self.is_roomy(hall) || place as usize >= hall.sites().len() {
+        if !self.is_roomy(hall) || !hangs(hall, place) {
             return None;
         }
         Some(Numbers::from(part(self.lamps, place as usize)))

@@ -1,7 +1,7 @@
 // What a script can ask for.
 use model::Doing;
 
-// One of the numbers of a telling; a lamp has all of them but the last.
+// One of the numbers of a telling, in the order of its words; a lamp has all of them but the last.
 #[derive(Clone, Copy)]
 pub enum Field {
     Best,

@@ -9,25 +9,12 @@ ghost use Rattle.network.specs.Turns.{Turns};
 
 use super::lent::Lent;
 use super::slots::{site, slot};
-use super::words::{part, put};
+use super::words::put;
 use model::Doing;
 use protocol::facts::{Site, WIRES};
 use protocol::state::{Lamp, Work};
 use telling::frame::Reading;
 use telling::{NOTHING, Telling};
-
-// The tellings in the first slots of a lamp, by wire.
-fn row(memories: &[u32], place: usize, wires: usize) -> [Telling; WIRES]
-    requires { (wires ≤ 16) × (112 * place + 112 ≤ length memories.now) }
-    ensures { Recalls (λ k. telling_in memories.now (16 * place + k)) result wires }
-{
-    let mut heard = [NOTHING; WIRES];
-    // tried: nothing of what `array::from_fn` makes is known without a proof by hand over its closure
-    for k in 0..wires {
-        heard[k] = Telling::from(part(memories, WIRES * place + k));
-    }
-    heard
-}
 
 impl Lent<'_, '_, '_, '_, '_> {
     // What a lamp remembers, by wire.
@@ -35,7 +22,12 @@ impl Lent<'_, '_, '_, '_, '_> {
         requires { (wires ≤ 16) × (place < (hall_of self.now.hall.now).count) }
         ensures { Recalls (λ k. telling_in self.now.memories.now (16 * place + k)) result wires }
     {
-        row(self.memories, place, wires)
+        let mut heard = [NOTHING; WIRES];
+        // by index, since little is known of what `array::from_fn` or a loop over `iter_mut` leaves
+        for k in 0..wires {
+            heard[k] = self.memory(WIRES * place + k);
+        }
+        heard
     }
 
     // A lamp hears what lies on the wire from another one, where they are wired; noise changes nothing.

@@ -40,6 +40,7 @@ impl Draws {
         ensures next { self.new.state ≡ after N self.old.state }
     {
         let mut numbers = [0; N];
+        // by index, since little is known of what `array::from_fn` or a loop over `iter_mut` leaves
         for k in 0..N {
             numbers[k] = self.number();
         }

@@ -6,7 +6,7 @@ ghost use Rattle.network.specs.Words.{telling_in, numbers_in, reading_in};
 ghost use Rattle.network.specs.Turns.{Turns};
 
 use super::lent::Lent;
-use super::slots::slot;
+use super::slots::{hangs, slot};
 use super::words::{part, put};
 use protocol::state::Numbers;
 use telling::Telling;
@@ -69,9 +69,8 @@ impl Lent<'_, '_, '_, '_, '_> {
     pub(crate) fn note(&mut self, place: u32, numbers: Numbers)
         ensures { Turns self.old self.new (noted place numbers) }
     {
-        let place = place as usize;
-        if place < self.hall.sites().len() {
-            put(self.lamps, place, numbers.into());
+        if hangs(self.hall, place) {
+            put(self.lamps, place as usize, numbers.into());
         }
     }
 }

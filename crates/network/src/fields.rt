@@ -7,7 +7,7 @@ ghost use Rattle.network.specs.Turns.{Turns};
 
 use super::commands::Field;
 use super::lent::Lent;
-use super::slots::slot;
+use super::slots::{hangs, slot};
 use protocol::state::Numbers;
 use telling::frame::Reading;
 use telling::{NOTHING, Telling};
@@ -68,7 +68,7 @@ impl Lent<'_, '_, '_, '_, '_> {
     pub(crate) fn set_lamp(&mut self, place: u32, field: Field, n: u32)
         ensures { Turns self.old self.new (λ net. noted place (with_number field n (net.lamp place)) net) }
     {
-        if (place as usize) < self.hall.sites().len() {
+        if hangs(self.hall, place) {
             let numbers = self.numbers(place as usize);
             self.note(place, Numbers::from(field.set_in(numbers.into(), n)));
         }

@@ -1,12 +1,12 @@
 // Which commands are refused.
-ghost use Rattle.std.specs.Prelude.{◌≡◌, nat_lt};
+ghost use Rattle.std.specs.Prelude.{◌≡◌};
 ghost use Rattle.model.specs.Halls.{is_wired};
 ghost use Rattle.telling.specs.declared.refusal.Refusal.TheVariants.{NoWire};
 ghost use Rattle.topology.specs.Reading.{hall_of};
 ghost use Rattle.network.specs.Effects.{unless, refusal_of};
 
 use super::commands::Command;
-use super::slots::slot;
+use super::slots::{hangs, slot};
 use model::Doing;
 use telling::refusal::Refusal;
 use topology::hall::Topology;
@@ -15,12 +15,6 @@ fn unless(good: bool, refusal: Refusal) -> Result<(), Refusal>
     ensures { result ≡ unless good refusal }
 {
     if good { Ok(()) } else { Err(refusal) }
-}
-
-fn hangs(hall: &Topology, place: u32) -> bool
-    ensures { result ≡ nat_lt place (hall_of hall.now).count }
-{
-    (place as usize) < hall.sites().len()
 }
 
 fn wired(hall: &Topology, by: u32, of: u32) -> Result<(), Refusal>

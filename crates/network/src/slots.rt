@@ -1,11 +1,18 @@
 // Where what is said between two lamps stands.
-ghost use Rattle.std.specs.Prelude.{◌≡◌, ◌*◌, ◌<◌, ◌≤◌, false, MatchOption, IfSome};
+ghost use Rattle.std.specs.Prelude.{◌≡◌, ◌*◌, ◌<◌, ◌≤◌, false, MatchOption, IfSome, nat_lt};
 ghost use Rattle.model.specs.Halls.{is_wired};
 ghost use Rattle.topology.specs.Reading.{hall_of};
 ghost use Rattle.network.specs.Slots.{Slot, SiteOf};
 
 use protocol::facts::{Site, WIRES};
 use topology::hall::Topology;
+
+// Whether there is a lamp at a place.
+pub(crate) fn hangs(hall: &Topology, place: u32) -> bool
+    ensures { result ≡ nat_lt place (hall_of hall.now).count }
+{
+    (place as usize) < hall.sites().len()
+}
 
 // The slot of what a lamp hears of another, where there is a wire between them.
 pub(crate) fn slot(hall: &Topology, by: u32, of: u32) -> Option<usize>

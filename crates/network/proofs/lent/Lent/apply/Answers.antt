@@ -2,33 +2,33 @@ use Rattle.std.proofs.Common.{rules}
 use Rattle.network.specs.Effects.{effect_of}
 use Rattle.network.proofs.lent.Lent.apply.Goals as goal
 
-pub returns-in-SetMemory : goal.returns-in-SetMemory
+pub returns-in-SetMemory-clause-ok : goal.returns-in-SetMemory-clause-ok
 unfolding effect_of
-returns-in-SetMemory c = rw c.in-SetMemory.is c.set_memory.ensures
+returns-in-SetMemory-clause-ok c = rw c.in-SetMemory.is c.set_memory.ensures
 
-pub returns-in-SetWire : goal.returns-in-SetWire
+pub returns-in-SetWire-clause-ok : goal.returns-in-SetWire-clause-ok
 unfolding effect_of
-returns-in-SetWire c = rw c.in-SetWire.is c.set_wire.ensures
+returns-in-SetWire-clause-ok c = rw c.in-SetWire.is c.set_wire.ensures
 
-pub returns-in-SetNoise : goal.returns-in-SetNoise
+pub returns-in-SetNoise-clause-ok : goal.returns-in-SetNoise-clause-ok
 unfolding effect_of
-returns-in-SetNoise c = rw c.in-SetNoise.is c.lay.ensures
+returns-in-SetNoise-clause-ok c = rw c.in-SetNoise.is c.lay.ensures
 
-pub returns-in-SetLamp : goal.returns-in-SetLamp
+pub returns-in-SetLamp-clause-ok : goal.returns-in-SetLamp-clause-ok
 unfolding effect_of
-returns-in-SetLamp c = rw c.in-SetLamp.is c.set_lamp.ensures
+returns-in-SetLamp-clause-ok c = rw c.in-SetLamp.is c.set_lamp.ensures
 
-pub returns-in-Do : goal.returns-in-Do
+pub returns-in-Do-clause-ok : goal.returns-in-Do-clause-ok
 unfolding effect_of
-returns-in-Do c = rw c.in-Do.is c.carry.ensures
+returns-in-Do-clause-ok c = rw c.in-Do.is c.carry.ensures
 
-pub returns-in_ok-fill_all-in-Fill : goal.returns-in_ok-fill_all-in-Fill
+pub returns-in_ok-fill_all-in-Fill-clause-ok : goal.returns-in_ok-fill_all-in-Fill-clause-ok
 unfolding effect_of
-returns-in_ok-fill_all-in-Fill c = rw c.in-Fill.is c.in_ok-fill_all-in-Fill.ensures
+returns-in_ok-fill_all-in-Fill-clause-ok c = rw c.in-Fill.is c.in_ok-fill_all-in-Fill.ensures.ok
 
-pub returns-in_ok-round-in-Round : goal.returns-in_ok-round-in-Round
+pub returns-in_ok-round-in-Round-clause-ok : goal.returns-in_ok-round-in-Round-clause-ok
 unfolding effect_of
-returns-in_ok-round-in-Round c = rw c.in-Round.is c.in_ok-round-in-Round.ensures
+returns-in_ok-round-in-Round-clause-ok c = rw c.in-Round.is c.in_ok-round-in-Round.ensures.ok
 
 pub returns-in-Show : goal.returns-in-Show
 unfolding effect_of

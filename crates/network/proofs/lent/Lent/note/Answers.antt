@@ -4,8 +4,8 @@ use Rattle.network.proofs.Overwrites.{numbers_put}
 use Rattle.network.proofs.Changes.{other_lamps}
 use Rattle.network.proofs.lent.Lent.note.Goals as goal
 
-pub returns-then-place-sites : goal.returns-then-place-sites
-returns-then-place-sites c =
+pub returns-then-hangs : goal.returns-then-hangs
+returns-then-hangs c =
     let l = c.args.self.now in
     record {
       lent = search rules;

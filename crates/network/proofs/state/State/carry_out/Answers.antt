@@ -8,4 +8,4 @@ returns-in_ok-apply c =
     let roomy = sym c.is_roomy.ensures ∙ c.if-not-is_roomy.false in
     carried c.args.hall.now c.args.self.now _ (state_in c.apply.new.self) _ (record { memories = refl; wires = refl; noise = refl; lamps = refl })
     (record { memories = search rules; wires = search rules; noise = search rules; lamps = search rules }) c.args.command c.refusal_of-answer.result roomy
-    c.refusal_of-answer.ensures (sym c.is_ok.ensures.value ∙ c.if-is_ok.true) c.in_ok-apply.ensures.becomes
+    c.refusal_of-answer.ensures (sym c.is_ok.ensures.value ∙ c.if-is_ok.true) c.in_ok-apply.ensures.ok.becomes
