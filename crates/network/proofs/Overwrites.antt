@@ -86,12 +86,12 @@ module _ (n : ℕ) (xs ys : List ℕ) (s : ℕ) (room : n * s + n ≤ length xs)
 
 -- what is read of a part is put where its words are
 pub put_read :
-    {X : Type 0} (n : ℕ) (read : List ℕ → X) (xs zs : List ℕ) (s : ℕ) (ys : List ℕ) (x : X) → read ys ≡ x → PartPut n xs zs s ys →
-    Put (λ words r. read (part_in n words r)) xs zs s x
-put_read n read xs zs s ys x is put = record { here = ap read put.here ∙ is; others = λ r ne. ap read (put.others r ne); long = put.long }
+    {X : Type 0} (n : ℕ) (read : List ℕ → X) (xs after : List ℕ) (s : ℕ) (ys : List ℕ) (x : X) → read ys ≡ x → PartPut n xs after s ys →
+    Put (λ words r. read (part_in n words r)) xs after s x
+put_read n read xs after s ys x is put = record { here = ap read put.here ∙ is; others = λ r ne. ap read (put.others r ne); long = put.long }
 
-pub telling_put : (xs zs : List ℕ) (s : ℕ) (t : Telling) (ys : List ℕ) → ys ≡ words_of_telling t → PartPut 7 xs zs s ys → TellingPut xs zs s t
-telling_put xs zs s t ys e put = put_read 7 telling_of_words xs zs s ys t (ap telling_of_words e) put
+pub telling_put : (xs after : List ℕ) (s : ℕ) (t : Telling) (ys : List ℕ) → ys ≡ words_of_telling t → PartPut 7 xs after s ys → TellingPut xs after s t
+telling_put xs after s t ys e put = put_read 7 telling_of_words xs after s ys t (ap telling_of_words e) put
 
-pub numbers_put : (xs zs : List ℕ) (s : ℕ) (w : Numbers) (ys : List ℕ) → ys ≡ words_of_numbers w → PartPut 6 xs zs s ys → NumbersPut xs zs s w
-numbers_put xs zs s w ys e put = put_read 6 numbers_of_words xs zs s ys w (ap numbers_of_words e) put
+pub numbers_put : (xs after : List ℕ) (s : ℕ) (w : Numbers) (ys : List ℕ) → ys ≡ words_of_numbers w → PartPut 6 xs after s ys → NumbersPut xs after s w
+numbers_put xs after s w ys e put = put_read 6 numbers_of_words xs after s ys w (ap numbers_of_words e) put
