@@ -10,6 +10,8 @@ ghost use Rattle.text.specs.Words.{line_of, FirstAt, NoneIs, up_to, past, first_
 
 use std::alloc::{AllocError, Global};
 
+pub mod parting;
+
 // The decimal number that a word writes: digits alone, and at most `u32::MAX`.
 pub fn number(word: &[u8]) -> Option<u32>
     ensures { result ≡ number_of word.now }
