@@ -1,11 +1,11 @@
 // The lines that a lamp's program reads.
-ghost use Rattle.std.specs.Prelude.{◌≡◌, [], ◌∷◌, IfOk};
-ghost use Rattle.std.specs.Str.{bytes_eq};
+ghost use Rattle.std.specs.Prelude.{◌≡◌, map, IfOk};
 ghost use Rattle.text.specs.Words.{words_of};
 ghost use Rattle.console.specs.Lines.{meant, meant_by};
 
 use std::alloc::{AllocError, Global};
-use text::{bytes_of, cut, number};
+use text::parting::words;
+use text::{bytes_of, number};
 
 // What a line tells a lamp to do.
 #[derive(PartialEq, Eq, Debug, Drop)]
@@ -24,64 +24,29 @@ impl Order {
     pub fn read(heap: Global, line: &[u8]) -> Result<Order, AllocError>
         ensures { IfOk result (λ order. meant order ≡ meant_by (words_of line.now)) }
     {
-        let (verb, rest) = cut(line);
-        let Some(rest) = rest else {
-            return Ok(Order::alone(verb));
-        };
-        let (place, rest) = cut(rest);
-        let Some(rest) = rest else {
-            return Ok(Order::with_place(verb, place));
-        };
-        let (digits, rest) = cut(rest);
-        match rest {
-            None => Order::with_frame(heap, verb, place, digits),
-            Some(_) => Ok(Order::Unknown),
-        }
+        // a fourth word is enough to see that there are too many
+        let mut room = [line; 4];
+        Order::told(heap, words(line, &mut room))
     }
 
-    // A line of one word.
-    fn alone(verb: &[u8]) -> Order
-        ensures { meant result ≡ meant_by (verb.now ∷ []) }
+    fn told(heap: Global, words: &[&[u8]]) -> Result<Order, AllocError>
+        ensures { IfOk result (λ order. meant order ≡ meant_by (map (λ w. w.now) words.now)) }
     {
-        if is(verb, "work") {
-            Order::Work
-        } else if is(verb, "show") {
-            Order::Show
-        } else {
-            Order::Unknown
-        }
-    }
-
-    // A line of two words.
-    fn with_place(verb: &[u8], place: &[u8]) -> Order
-        ensures { meant result ≡ meant_by (verb.now ∷ place.now ∷ []) }
-    {
-        match number(place) {
-            Some(place) if is(verb, "tell") => Order::Tell(place),
-            _ => Order::Unknown,
-        }
-    }
-
-    // A line of three words.
-    fn with_frame(
-        heap: Global,
-        verb: &[u8],
-        place: &[u8],
-        digits: &[u8],
-    ) -> Result<Order, AllocError>
-        ensures { IfOk result (λ order. meant order ≡ meant_by (verb.now ∷ place.now ∷ digits.now ∷ [])) }
-    {
-        match number(place) {
-            Some(place) if is(verb, "hear") => Ok(Order::Hear(place, bytes_of(heap, digits)?)),
+        // tried: all other lines in one arm, for which the check then finds no proof (too many branches meet there)
+        match words {
+            [b"work"] => Ok(Order::Work),
+            [b"show"] => Ok(Order::Show),
+            [_] => Ok(Order::Unknown),
+            [b"tell", place] => Ok(number(place).map_or(Order::Unknown, Order::Tell)),
+            [_, _] => Ok(Order::Unknown),
+            [b"hear", place, digits] => match number(place) {
+                Some(place) => Ok(Order::Hear(place, bytes_of(heap, digits)?)),
+                None => Ok(Order::Unknown),
+            },
+            [_, _, _] => Ok(Order::Unknown),
             _ => Ok(Order::Unknown),
         }
     }
-}
-
-fn is(word: &[u8], text: &str) -> bool
-    ensures { result ≡ bytes_eq word.now text.now }
-{
-    word == text.as_bytes()
 }
 
 #[cfg(test)]
