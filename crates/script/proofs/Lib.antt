@@ -1,3 +1,4 @@
 -- Lemmas on the definitions of specs/.
+mod Asked
 mod Cuts
 mod Shown

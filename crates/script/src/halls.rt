@@ -1,13 +1,15 @@
 // The lines of a hall file.
-ghost use Rattle.std.specs.Prelude.{◌≡◌, [], ◌∷◌, map, IfOk};
+ghost use Rattle.std.specs.Prelude.{◌≡◌, map, IfOk};
+ghost use Rattle.std.specs.Option.{unwrap_or};
 ghost use Rattle.text.specs.Words.{words_of};
+ghost use Rattle.topology.specs.declared.lines.Line.TheVariants.{Unknown};
 ghost use Rattle.script.specs.Halls.{line_by};
 ghost use Rattle.script.specs.Lines.{lines_of};
 
 use super::lines::{Said, each_line};
-use super::words::{is, two_numbers};
 use std::alloc::{AllocError, Global};
-use text::{cut, number};
+use text::number;
+use text::parting::words;
 use topology::lines::Line;
 
 // What the lines of a hall file say.
@@ -29,38 +31,21 @@ impl Said for Line {
 pub fn line_in(line: &[u8]) -> Line
     ensures { result ≡ line_by (words_of line.now) }
 {
-    let (verb, rest) = cut(line);
-    let Some(rest) = rest else {
-        return Line::Unknown;
-    };
-    let (first, rest) = cut(rest);
-    let Some(rest) = rest else {
-        return with_number(verb, first);
-    };
-    let (second, rest) = cut(rest);
-    match rest {
-        None => with_places(verb, first, second),
-        Some(_) => Line::Unknown,
-    }
+    // a fourth word is enough to see that there are too many
+    let mut room = [line; 4];
+    told(words(line, &mut room)).unwrap_or(Line::Unknown)
 }
 
-// A line of two words.
-fn with_number(verb: &[u8], n: &[u8]) -> Line
-    ensures { result ≡ line_by (verb.now ∷ n.now ∷ []) }
+// What words say: none where they are no line of the format.
+fn told(words: &[&[u8]]) -> Option<Line>
+    ensures { unwrap_or result Unknown ≡ line_by (map (λ w. w.now) words.now) }
 {
-    match number(n) {
-        Some(n) if is(verb, "most") => Line::Most(n),
-        Some(n) if is(verb, "lamp") => Line::Lamp(n),
-        _ => Line::Unknown,
-    }
-}
-
-// A line of three words.
-fn with_places(verb: &[u8], first: &[u8], second: &[u8]) -> Line
-    ensures { result ≡ line_by (verb.now ∷ first.now ∷ second.now ∷ []) }
-{
-    match two_numbers(first, second) {
-        Some((a, b)) if is(verb, "wire") => Line::Wire(a, b),
-        _ => Line::Unknown,
+    match words {
+        [b"most", n] => Some(Line::Most(number(n)?)),
+        [b"lamp", n] => Some(Line::Lamp(number(n)?)),
+        [_, _] => None,
+        [b"wire", a, b] => Some(Line::Wire(number(a)?, number(b)?)),
+        [_, _, _] => None,
+        _ => None,
     }
 }

@@ -1,18 +1,18 @@
 // The lines of a script.
-ghost use Rattle.std.specs.Prelude.{◌≡◌, [], ◌∷◌, map, IfOk};
-ghost use Rattle.std.specs.Option.{option_map};
-ghost use Rattle.text.specs.Decimal.{number_of};
-ghost use Rattle.text.specs.Words.{words_of, words_behind};
+ghost use Rattle.std.specs.Prelude.{◌≡◌, [], ◌∷◌, map, codes, IfOk};
+ghost use Rattle.std.specs.Option.{unwrap_or};
+ghost use Rattle.text.specs.Words.{words_of};
+ghost use Rattle.network.specs.declared.commands.Command.TheVariants.{Unknown};
 ghost use Rattle.script.specs.Lines.{lines_of};
-ghost use Rattle.script.specs.Words.{both};
-ghost use Rattle.script.specs.Orders.{field_of, lamp_field_of, set_lamp, set_telling, set_by, command_by};
+ghost use Rattle.script.specs.Orders.{field_of, lamp_field_of, set_by, command_by};
 
 use super::lines::{Said, each_line};
-use super::words::{is, two_numbers};
+use super::words::two_numbers;
 use model::Doing;
 use network::commands::{Command, Field};
 use std::alloc::{AllocError, Global};
-use text::{cut, number};
+use text::number;
+use text::parting::words;
 
 // What the lines of a script ask for.
 pub fn commands_of(heap: Global, text: &[u8]) -> Result<Vec<Command>, AllocError>
@@ -33,166 +33,119 @@ impl Said for Command {
 pub fn command_in(line: &[u8]) -> Command
     ensures { result ≡ command_by (words_of line.now) }
 {
-    let (verb, rest) = cut(line);
-    let Some(rest) = rest else {
-        return alone(verb);
-    };
-    let (first, rest) = cut(rest);
-    let Some(rest) = rest else {
-        return with_number(verb, first);
-    };
-    let (second, rest) = cut(rest);
-    let Some(rest) = rest else {
-        return with_places(verb, first, second);
-    };
-    let (third, rest) = cut(rest);
-    if is(verb, "set") {
-        set_in(first, second, third, rest)
-    } else {
-        Command::Unknown
+    // a seventh word is enough to see that there are too many
+    let mut room = [line; 7];
+    asked(words(line, &mut room)).unwrap_or(Command::Unknown)
+}
+
+// What words ask for: none where they are no line of the format.
+fn asked(words: &[&[u8]]) -> Option<Command>
+    ensures { unwrap_or result Unknown ≡ command_by (map (λ w. w.now) words.now) }
+{
+    match words {
+        [verb] => alone(verb),
+        [verb, n] => with_number(verb, n),
+        [verb, first, second] => with_places(verb, first, second),
+        [b"set", what @ ..] => set(what),
+        _ => None,
     }
 }
 
 // A line of one word.
-fn alone(verb: &[u8]) -> Command
-    ensures { result ≡ command_by (verb.now ∷ []) }
+fn alone(verb: &[u8]) -> Option<Command>
+    ensures { unwrap_or result Unknown ≡ command_by (verb.now ∷ []) }
 {
-    if is(verb, "show") {
-        Command::Show
-    } else {
-        Command::Unknown
+    match verb {
+        b"show" => Some(Command::Show),
+        _ => None,
     }
 }
 
 // A line of two words.
-fn with_number(verb: &[u8], n: &[u8]) -> Command
-    ensures { result ≡ command_by (verb.now ∷ n.now ∷ []) }
+#[tactic(auto, using(text::proofs::Matches::by_letters))]
+fn with_number(verb: &[u8], n: &[u8]) -> Option<Command>
+    ensures { unwrap_or result Unknown ≡ command_by (verb.now ∷ n.now ∷ []) }
 {
-    match number(n) {
-        Some(seed) if is(verb, "fill") => Command::Fill(seed),
-        Some(place) if is(verb, "work") => Command::Do(Doing::Work(place)),
-        Some(seed) if is(verb, "round") => Command::Round(seed),
-        _ => Command::Unknown,
+    let n = number(n)?;
+    match verb {
+        b"fill" => Some(Command::Fill(n)),
+        b"work" => Some(Command::Do(Doing::Work(n))),
+        b"round" => Some(Command::Round(n)),
+        _ => None,
     }
 }
 
 // A line of three words.
-fn with_places(verb: &[u8], first: &[u8], second: &[u8]) -> Command
-    ensures { result ≡ command_by (verb.now ∷ first.now ∷ second.now ∷ []) }
+fn with_places(verb: &[u8], first: &[u8], second: &[u8]) -> Option<Command>
+    ensures { unwrap_or result Unknown ≡ command_by (verb.now ∷ first.now ∷ second.now ∷ []) }
 {
-    match two_numbers(first, second) {
-        Some((to, from)) if is(verb, "hear") => Command::Do(Doing::Hear(to, from)),
-        _ => Command::Unknown,
+    let (to, from) = two_numbers(first, second)?;
+    match verb {
+        b"hear" => Some(Command::Do(Doing::Hear(to, from))),
+        _ => None,
     }
 }
 
-// A line that sets something: three words behind `set`, and what stands behind those.
-fn set_in(kind: &[u8], first: &[u8], second: &[u8], rest: Option<&[u8]>) -> Command
-    ensures { result ≡ set_by kind.now first.now second.now (words_behind (option_map (λ x. x.now) rest.entry)) }
+// A line that sets something, by the words behind `set`.
+fn set(words: &[&[u8]]) -> Option<Command>
+    ensures { unwrap_or result Unknown ≡ command_by (codes "set" ∷ map (λ w. w.now) words.now) }
 {
-    let Some(rest) = rest else {
-        return Command::Unknown;
-    };
-    let (third, rest) = cut(rest);
-    let Some(rest) = rest else {
-        return set_lamp_or_noise(kind, first, second, third);
-    };
-    let (fourth, rest) = cut(rest);
-    match rest {
-        None => set_telling(
-            kind,
-            two_numbers(first, second),
-            telling_value(third, fourth),
-        ),
-        Some(_) => Command::Unknown,
+    match words {
+        [kind, first, second, third] => set_lamp_or_noise(kind, first, second, third),
+        [kind, first, second, field, n] => set_telling(kind, first, second, field, n),
+        _ => None,
     }
 }
 
-// Four words behind `set`: a number of a lamp, or noise on a wire.
-fn set_lamp_or_noise(kind: &[u8], first: &[u8], second: &[u8], third: &[u8]) -> Command
-    ensures { result ≡ set_by kind.now first.now second.now (third.now ∷ []) }
+// A number of a lamp, or noise on a wire.
+#[tactic(auto, using(text::proofs::Matches::by_letters))]
+fn set_lamp_or_noise(kind: &[u8], first: &[u8], second: &[u8], third: &[u8]) -> Option<Command>
+    ensures { unwrap_or result Unknown ≡ set_by kind.now first.now second.now (third.now ∷ []) }
 {
-    if is(kind, "lamp") {
-        set_lamp(number(first), lamp_value(second, third))
-    } else if is(kind, "wire") && is(third, "noise") {
-        match two_numbers(first, second) {
-            Some((from, to)) => Command::SetNoise(from, to),
-            None => Command::Unknown,
-        }
-    } else {
-        Command::Unknown
-    }
-}
-
-// A number of a lamp.
-fn set_lamp(place: Option<u32>, value: Option<(Field, u32)>) -> Command
-    ensures { result ≡ set_lamp place value }
-{
-    match (place, value) {
-        (Some(place), Some((field, n))) => Command::SetLamp(place, field, n),
-        _ => Command::Unknown,
+    match (kind, third) {
+        (b"lamp", n) => Some(Command::SetLamp(number(first)?, lamp_field(second)?, number(n)?)),
+        (b"wire", b"noise") => Some(Command::SetNoise(number(first)?, number(second)?)),
+        _ => None,
     }
 }
 
 // A number of what a lamp remembers, or of what lies on a wire.
-fn set_telling(kind: &[u8], places: Option<(u32, u32)>, value: Option<(Field, u32)>) -> Command
-    ensures { result ≡ set_telling kind.now places value }
+#[tactic(auto, using(text::proofs::Matches::by_letters))]
+fn set_telling(kind: &[u8], first: &[u8], second: &[u8], field: &[u8], n: &[u8]) -> Option<Command>
+    ensures { unwrap_or result Unknown ≡ set_by kind.now first.now second.now (field.now ∷ n.now ∷ []) }
 {
-    let (Some((first, second)), Some((field, n))) = (places, value) else {
-        return Command::Unknown;
-    };
-    if is(kind, "memory") {
-        Command::SetMemory(first, second, field, n)
-    } else if is(kind, "wire") {
-        Command::SetWire(first, second, field, n)
-    } else {
-        Command::Unknown
+    let (first, second) = two_numbers(first, second)?;
+    let (field, n) = (field_of(field)?, number(n)?);
+    match kind {
+        b"memory" => Some(Command::SetMemory(first, second, field, n)),
+        b"wire" => Some(Command::SetWire(first, second, field, n)),
+        _ => None,
     }
-}
-
-// A field of a telling, and its number.
-fn telling_value(field: &[u8], n: &[u8]) -> Option<(Field, u32)>
-    ensures { result ≡ both (field_of field.now) (number_of n.now) }
-{
-    Some((field_of(field)?, number(n)?))
-}
-
-// A field of a lamp, and its number.
-fn lamp_value(field: &[u8], n: &[u8]) -> Option<(Field, u32)>
-    ensures { result ≡ both (lamp_field_of field.now) (number_of n.now) }
-{
-    Some((lamp_field(field)?, number(n)?))
 }
 
 // A lamp has all fields of a telling but the last.
+#[tactic(auto, using(text::proofs::Matches::by_letters))]
 fn lamp_field(word: &[u8]) -> Option<Field>
     ensures { result ≡ lamp_field_of word.now }
 {
-    if is(word, "given") {
-        None
-    } else {
-        field_of(word)
+    match word {
+        b"given" => None,
+        _ => field_of(word),
     }
 }
 
+#[tactic(auto, using(text::proofs::Matches::by_letters))]
 fn field_of(word: &[u8]) -> Option<Field>
     ensures { result ≡ field_of word.now }
 {
-    if is(word, "best") {
-        Some(Field::Best)
-    } else if is(word, "distance") {
-        Some(Field::Distance)
-    } else if is(word, "parent") {
-        Some(Field::Parent)
-    } else if is(word, "size") {
-        Some(Field::Size)
-    } else if is(word, "total") {
-        Some(Field::Total)
-    } else if is(word, "number") {
-        Some(Field::Number)
-    } else if is(word, "given") {
-        Some(Field::Given)
-    } else {
-        None
+    match word {
+        b"best" => Some(Field::Best),
+        b"distance" => Some(Field::Distance),
+        b"parent" => Some(Field::Parent),
+        b"size" => Some(Field::Size),
+        b"total" => Some(Field::Total),
+        b"number" => Some(Field::Number),
+        b"given" => Some(Field::Given),
+        _ => None,
     }
 }

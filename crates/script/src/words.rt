@@ -1,16 +1,9 @@
 // Words of a line, one by one.
 ghost use Rattle.std.specs.Prelude.{◌≡◌};
-ghost use Rattle.std.specs.Str.{bytes_eq};
 ghost use Rattle.text.specs.Decimal.{number_of};
 ghost use Rattle.script.specs.Words.{both};
 
 use text::number;
-
-pub(crate) fn is(word: &[u8], text: &str) -> bool
-    ensures { result ≡ bytes_eq word.now text.now }
-{
-    word == text.as_bytes()
-}
 
 // The numbers that two words write, where each writes one.
 pub(crate) fn two_numbers(first: &[u8], second: &[u8]) -> Option<(u32, u32)>
