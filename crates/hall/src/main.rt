@@ -3,6 +3,7 @@
 
 use network::commands::Command;
 use network::state::State;
+use protocol::facts::WIRES;
 use script::halls::lines_of;
 use script::orders::commands_of;
 use script::performing::perform;
@@ -15,6 +16,11 @@ use topology::fault::{Fault, Refused};
 use topology::hall::Topology;
 
 const USAGE: &str = "hall takes FILE, or --progress FILE";
+
+// as many words as a telling takes, and as a lamp's numbers take
+const TELLING: usize = 7;
+
+const NUMBERS: usize = 6;
 
 // Why the program ends early.
 #[derive(Drop)]
@@ -40,7 +46,7 @@ impl From<Fault> for Stop {
     fn from(fault: Fault) -> Stop {
         match fault {
             Fault::Refused(refused) => Stop::Hall(refused),
-            Fault::OutOfMemory => Stop::Failed(io::Error::from(AllocError)),
+            Fault::OutOfMemory => Stop::from(AllocError),
         }
     }
 }
@@ -81,6 +87,7 @@ fn run(rt: &HostRuntime) -> Result<(), Stop> {
 }
 
 // An argument that is no text is a bad argument.
+// As in lamp: no contract could say which words these are, so one function for both would be no plainer.
 fn words(rt: &HostRuntime) -> Result<Vec<String>, Stop> {
     match env::args(rt) {
         Ok(words) => Ok(words.skip(1).collect(rt.alloc())?),
@@ -126,11 +133,12 @@ fn start(
     progress: bool,
 ) -> Result<(), Stop> {
     let count = hall.sites().len();
+    let slots = WIRES * count;
     let heap = rt.alloc();
-    let mut memories = vec![in heap; 0; 112 * count]?;
-    let mut wires = vec![in heap; 0; 112 * count]?;
-    let mut noise = vec![in heap; 0; 16 * count]?;
-    let mut lamps = vec![in heap; 0; 6 * count]?;
+    let mut memories = vec![in heap; 0; TELLING * slots]?;
+    let mut wires = vec![in heap; 0; TELLING * slots]?;
+    let mut noise = vec![in heap; 0; slots]?;
+    let mut lamps = vec![in heap; 0; NUMBERS * count]?;
     let mut state = State {
         memories: memories.as_mut_slice(),
         wires: wires.as_mut_slice(),

@@ -10,7 +10,7 @@ use protocol::state::Lamp;
 use std::alloc::AllocError;
 use std::io::{BufRead, BufReader};
 use std::process::ExitCode;
-use std::{env, fs, io};
+use std::{env, fmt, fs, io};
 use telling::refusal::Refusal;
 use text::line_of;
 
@@ -42,7 +42,19 @@ impl From<Fault> for Stop {
     fn from(fault: Fault) -> Stop {
         match fault {
             Fault::Refused(refusal) => Stop::Refused(refusal),
-            Fault::OutOfMemory => Stop::Failed(io::Error::from(AllocError)),
+            Fault::OutOfMemory => Stop::from(AllocError),
+        }
+    }
+}
+
+impl fmt::Display for Stop {
+    fn fmt<W: fmt::Write>(&self, f: &mut fmt::Formatter<W>) -> fmt::Result {
+        match self {
+            Stop::Refused(refusal) => {
+                let number = refusal.number();
+                write!(f, "{number} {USAGE}")
+            }
+            Stop::Failed(error) => write!(f, "lamp: {error}"),
         }
     }
 }
@@ -52,19 +64,9 @@ fn main(rt: HostRuntime) -> ExitCode {
     match run(&rt) {
         Ok(()) => ExitCode::SUCCESS,
         Err(stop) => {
-            let _ = explain(&rt, &stop);
+            let _ = eprintln!(rt; "{stop}");
             ExitCode::FAILURE
         }
-    }
-}
-
-fn explain(rt: &HostRuntime, stop: &Stop) -> io::Result<()> {
-    match stop {
-        Stop::Refused(refusal) => {
-            let number = refusal.number();
-            eprintln!(rt; "{number} {USAGE}")
-        }
-        Stop::Failed(error) => eprintln!(rt; "lamp: {error}"),
     }
 }
 
@@ -78,19 +80,19 @@ fn run(rt: &HostRuntime) -> Result<(), Stop> {
 
 // The site that the arguments behind the program's name tell.
 fn site(rt: &HostRuntime) -> Result<Site, Stop> {
-    let words = match env::args(rt) {
-        Ok(words) => words,
-        Err(error) => return Err(no_words(error)),
-    };
-    let words: Vec<String> = words.skip(1).collect(rt.alloc())?;
+    let words = words(rt)?;
     Ok(site_of(rt.alloc(), words.as_slice())?)
 }
 
 // An argument that is no text is a bad argument.
-fn no_words(error: io::Error) -> Stop {
-    match error.kind() {
-        io::ErrorKind::InvalidData => Stop::Refused(Refusal::Input),
-        _ => Stop::Failed(error),
+// As in hall: no contract could say which words these are, so one function for both would be no plainer.
+fn words(rt: &HostRuntime) -> Result<Vec<String>, Stop> {
+    match env::args(rt) {
+        Ok(words) => Ok(words.skip(1).collect(rt.alloc())?),
+        Err(error) => match error.kind() {
+            io::ErrorKind::InvalidData => Err(Stop::Refused(Refusal::Input)),
+            _ => Err(Stop::Failed(error)),
+        },
     }
 }
 
