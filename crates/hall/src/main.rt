@@ -10,9 +10,10 @@ use script::performing::perform;
 use std::alloc::AllocError;
 use std::io::{IsTerminal, Read};
 use std::process::ExitCode;
-use std::{env, fs, io};
+use std::{env, fmt, fs, io};
+use telling::fault::Fault;
 use telling::refusal::Refusal;
-use topology::fault::{Fault, Refused};
+use topology::fault::Refused;
 use topology::hall::Topology;
 
 const USAGE: &str = "hall takes FILE, or --progress FILE";
@@ -42,11 +43,22 @@ impl From<AllocError> for Stop {
     }
 }
 
-impl From<Fault> for Stop {
-    fn from(fault: Fault) -> Stop {
+impl From<Fault<Refused>> for Stop {
+    fn from(fault: Fault<Refused>) -> Stop {
         match fault {
             Fault::Refused(refused) => Stop::Hall(refused),
             Fault::OutOfMemory => Stop::from(AllocError),
+        }
+    }
+}
+
+impl fmt::Display for Stop {
+    fn fmt<W: fmt::Write>(&self, f: &mut fmt::Formatter<W>) -> fmt::Result {
+        let number = Refusal::Input;
+        match self {
+            Stop::Arguments => write!(f, "{number} {USAGE}"),
+            Stop::Hall(refused) => write!(f, "{number} {refused}"),
+            Stop::Failed(error) => write!(f, "hall: {error}"),
         }
     }
 }
@@ -63,18 +75,9 @@ fn main(rt: HostRuntime) -> ExitCode {
     match run(&rt) {
         Ok(()) => ExitCode::SUCCESS,
         Err(stop) => {
-            let _ = explain(&rt, &stop);
+            let _ = eprintln!(rt; "{stop}");
             ExitCode::FAILURE
         }
-    }
-}
-
-fn explain(rt: &HostRuntime, stop: &Stop) -> io::Result<()> {
-    let number = Refusal::Input.number();
-    match stop {
-        Stop::Arguments => eprintln!(rt; "{number} {USAGE}"),
-        Stop::Hall(refused) => eprintln!(rt; "{number} {refused}"),
-        Stop::Failed(error) => eprintln!(rt; "hall: {error}"),
     }
 }
 

@@ -3,7 +3,6 @@
 
 use console::answers::{Answer, answer_to, text_of};
 use console::arguments::site_of;
-use console::fault::Fault;
 use console::orders::Order;
 use protocol::facts::Site;
 use protocol::state::Lamp;
@@ -11,6 +10,7 @@ use std::alloc::AllocError;
 use std::io::{BufRead, BufReader};
 use std::process::ExitCode;
 use std::{env, fmt, fs, io};
+use telling::fault::Fault;
 use telling::refusal::Refusal;
 use text::line_of;
 
@@ -38,8 +38,8 @@ impl From<AllocError> for Stop {
     }
 }
 
-impl From<Fault> for Stop {
-    fn from(fault: Fault) -> Stop {
+impl From<Fault<Refusal>> for Stop {
+    fn from(fault: Fault<Refusal>) -> Stop {
         match fault {
             Fault::Refused(refusal) => Stop::Refused(refusal),
             Fault::OutOfMemory => Stop::from(AllocError),
@@ -50,10 +50,7 @@ impl From<Fault> for Stop {
 impl fmt::Display for Stop {
     fn fmt<W: fmt::Write>(&self, f: &mut fmt::Formatter<W>) -> fmt::Result {
         match self {
-            Stop::Refused(refusal) => {
-                let number = refusal.number();
-                write!(f, "{number} {USAGE}")
-            }
+            Stop::Refused(refusal) => write!(f, "{refusal} {USAGE}"),
             Stop::Failed(error) => write!(f, "lamp: {error}"),
         }
     }
@@ -98,11 +95,11 @@ fn words(rt: &HostRuntime) -> Result<Vec<String>, Stop> {
 
 // The lamp with what it remembers from before it was off.
 fn wake(rt: &HostRuntime, lamp: Lamp) -> io::Result<Lamp> {
-    let (lamp, refusal) = match fs::read(rt, MEMORY) {
+    let (lamp, recalled) = match fs::read(rt, MEMORY) {
         Ok(memory) => lamp.recall(memory.as_slice()),
-        Err(_) => (lamp, Some(Refusal::Memory)),
+        Err(_) => (lamp, Err(Refusal::Memory)),
     };
-    if let Some(refusal) = refusal {
+    if let Err(refusal) = recalled {
         say(rt, &lamp, Answer::Refused(refusal))?;
     }
     Ok(lamp)
