@@ -1,7 +1,7 @@
 // What a lamp answers to an order, and the text of that.
 ghost use Rattle.std.specs.Prelude.{◌≡◌, IfOk, string_bytes};
 ghost use Rattle.console.specs.Lines.{meant};
-ghost use Rattle.console.specs.Answers.{Answered, heard_as, told_as, shown_as, text_of, frames_text, line_text, refusal_text, frame_text, numbers_text};
+ghost use Rattle.console.specs.Answers.{Answered, heard_as, told_as, shown_as, text_of, frames_text, line_text, frame_text};
 
 use super::orders::Order;
 use protocol::state::{Lamp, Numbers};
@@ -99,17 +99,11 @@ fn line_text(heap: Global, answer: Answer) -> Result<String, AllocError>
 {
     match answer {
         Answer::Silence | Answer::Frames => Ok(String::new(heap)),
-        Answer::Refused(refusal) => refusal_text(heap, refusal),
+        Answer::Refused(refusal) => format!(in heap; "{refusal}\n"),
         Answer::Frame(place, frame) => frame_text(heap, place, &frame),
-        Answer::Numbers(numbers) => numbers_text(heap, numbers),
+        Answer::Numbers(numbers) => format!(in heap; "{numbers}\n"),
         Answer::NotYet => String::from_str(heap, "none\n"),
     }
-}
-
-pub fn refusal_text(heap: Global, refusal: Refusal) -> Result<String, AllocError>
-    ensures { IfOk result (λ t. string_bytes t ≡ refusal_text refusal) }
-{
-    format!(in heap; "{refusal}\n")
 }
 
 fn frame_text(heap: Global, place: u32, frame: &[u8]) -> Result<String, AllocError>
@@ -117,10 +111,4 @@ fn frame_text(heap: Global, place: u32, frame: &[u8]) -> Result<String, AllocErr
 {
     let hex = hex_of(heap, frame)?;
     format!(in heap; "{place} {hex}\n")
-}
-
-pub fn numbers_text(heap: Global, numbers: Numbers) -> Result<String, AllocError>
-    ensures { IfOk result (λ t. string_bytes t ≡ numbers_text numbers) }
-{
-    format!(in heap; "{numbers}\n")
 }

@@ -8,7 +8,12 @@ use Rattle.protocol.specs.Words.{words_of_numbers, numbers_of_words}
 use Rattle.network.specs.declared.commands.Field.{Field}
 use Rattle.network.specs.declared.commands.Field.TheVariants.{Best, Distance, Parent, Size, Total, Number, Given}
 use Rattle.network.specs.Sequence.{number_from, after, numbers_drawn, telling_from, numbers_from}
-use Rattle.network.specs.Effects.{with_field, with_number, place_of}
+use Rattle.network.specs.Effects.{with_field, with_number, place_of, or_zeros}
+use Rattle.std.specs.Result.{result_unwrap_or}
+use Rattle.telling.specs.declared.frame.Reading.{Reading}
+use Rattle.telling.specs.declared.frame.Reading.TheVariants.{Told, Noise}
+use Rattle.telling.specs.Readings.{told_of}
+use Rattle.protocol.specs.Rules.{nothing}
 
 module _ (s r x : ℕ) (xs : List ℕ) (k : ℕ) (inside : k < length xs) where
   one_more : take k xs ≡ numbers_drawn k s → r ≡ after k s → x ≡ number_from r → take (suc k) (set xs k x) ≡ numbers_drawn (suc k) s
@@ -61,3 +66,8 @@ pub numbers_set :
     (f : Field) (n : ℕ) (w v : Numbers) (before after : List ℕ) → before ≡ words_of_numbers w → after ≡ set before (place_of f) n → v ≡ numbers_of_words after →
     v ≡ with_number f n w
 numbers_set f n w v before after is put read = read ∙ ap numbers_of_words (put ∙ ap (λ ws. set ws (place_of f) n) is) ∙ number_place f n w
+
+-- where noise was read, zeros are taken
+pub told_or_zeros : (r : Reading) → result_unwrap_or (told_of r) nothing ≡ or_zeros r
+told_or_zeros (Told t) = refl
+told_or_zeros Noise = refl

@@ -32,16 +32,6 @@ impl Field {
     }
 }
 
-// The telling that lies on a wire, zeros where noise does.
-fn or_zeros(reading: Reading) -> Telling
-    ensures { result ≡ or_zeros reading }
-{
-    match reading {
-        Reading::Told(said) => said,
-        Reading::Noise => NOTHING,
-    }
-}
-
 impl Lent<'_, '_, '_, '_, '_> {
     // A number of what a lamp remembers of another one, where they are wired.
     pub(crate) fn set_memory(&mut self, by: u32, of: u32, field: Field, n: u32)
@@ -58,7 +48,7 @@ impl Lent<'_, '_, '_, '_, '_> {
         ensures { Turns self.old self.new (λ net. laid from to (Told (with_field field n (or_zeros (net.line from to)))) net) }
     {
         if let Some(slot) = slot(self.hall, to, from) {
-            let said = or_zeros(self.reading(slot));
+            let said = self.reading(slot).told().unwrap_or(NOTHING);
             let said = Telling::from(field.set_in(said.into(), n));
             self.lay(from, to, Reading::Told(said));
         }

@@ -49,7 +49,7 @@ impl Lamp {
             return Err(Refusal::Memory);
         }
         for (k, said) in self.heard().iter().enumerate() {
-            let _ = said.store(memory, k);
+            said.store(memory, k)?;
         }
         Ok(())
     }

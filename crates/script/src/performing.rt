@@ -7,7 +7,6 @@ ghost use Rattle.network.specs.Carried.{is_roomy};
 ghost use Rattle.script.specs.Shows.{lamp_line, show_text, answer_text};
 
 use super::answers::lamp_text;
-use console::answers::refusal_text;
 use network::commands::Command;
 use network::state::State;
 use std::alloc::{AllocError, Global};
@@ -48,7 +47,7 @@ pub fn answer_text(
     ensures { IfOk result (λ t. string_bytes t ≡ answer_text hall.now state.now command answer) }
 {
     if let Err(refusal) = answer {
-        return refusal_text(heap, refusal);
+        return format!(in heap; "{refusal}\n");
     }
     match command {
         Command::Show => show_text(heap, hall, state),

@@ -50,11 +50,11 @@ fn each_byte_changed(rt: HostRuntime) {
 #[test]
 fn parts_of_a_memory(rt: HostRuntime) {
     let mut memory = [7u8; 3 * PART];
-    assert!(rt; SAID.store(&mut memory, 1));
+    assert_eq!(rt; SAID.store(&mut memory, 1), Ok(()));
     assert_eq!(rt; Telling::load(&memory, 1), Some(SAID));
     assert_eq!(rt; &memory[0..PART], &[7u8; PART][0..PART]);
     assert_eq!(rt; &memory[2 * PART..3 * PART], &[7u8; PART][0..PART]);
-    assert!(rt; !SAID.store(&mut memory, 3));
+    assert_eq!(rt; SAID.store(&mut memory, 3), Err(Refusal::Memory));
     assert_eq!(rt; Telling::load(&memory, 3), None);
     assert_eq!(rt; Telling::load(&memory[0..2 * PART - 1], 1), None);
 }

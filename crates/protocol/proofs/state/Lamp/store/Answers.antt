@@ -19,7 +19,7 @@ loop-k-preserved c =
     let long : length memory ≡ 28 * c.args.self.now.site.wires = omega (arith, c.loop-k.auto.memory) in
     let room : 28 * k + 28 ≤ length memory = omega arith in
     let has : ltb k (length memory / 28) ≡ true = lt-ltb _ _ (omega arith) in
-    let after : c.store.new.memory ≡ stored memory k said = c.store.ensures.after ∙ cond-true _ _ _ (c.store.ensures.test ∙ has) ∙ ap (stored memory k) told in
+    let after : c.store.new.memory ≡ stored memory k said = c.store.ensures.after ∙ cond-true _ _ _ has ∙ ap (stored memory k) told in
     below_more (λ j. part_of c.store.new.memory j ≡ bytes_of (get_or c.args.self.now.heard j nothing)) _
     (λ j h. ap (λ m. part_of m j) after ∙ part_below memory k said room j h ∙ c.loop-k.invariant j h)
     (ap (λ m. part_of m k) after ∙ part_here memory k said room)
