@@ -15,7 +15,7 @@ pub enum Order {
     Hear(u32, Option<Vec<u8>>),
     Tell(u32),
     Show,
-    // no line of the format
+    // no line of the format: it is answered in its turn as any other is, so an error would only be turned back into this
     Unknown,
 }
 
@@ -32,7 +32,7 @@ impl Order {
     fn told(heap: Global, words: &[&[u8]]) -> Result<Order, AllocError>
         ensures { IfOk result (λ order. meant order ≡ meant_by (map (λ w. w.now) words.now)) }
     {
-        // tried: all other lines in one arm, for which the check then finds no proof (too many branches meet there)
+        // tried: one arm for all that is unknown; where so many branches meet, the check finds no proof
         match words {
             [b"work"] => Ok(Order::Work),
             [b"show"] => Ok(Order::Show),

@@ -1,11 +1,28 @@
 -- Lines of a script, by how many words they have.
-use Rattle.std.proofs.Common.{◌≡◌, ℕ, ◌≤◌, false, List, [], ◌∷◌, map, length, get_or, take, codes, refl, arith}
+use Rattle.std.proofs.Common.{◌≡◌, ℕ, ◌<◌, ◌≤◌, false, List, [], ◌∷◌, map, length, get_or, take, codes, refl, arith}
 use Rattle.std.specs.Borrow.{Bor}
 use Rattle.std.specs.Str.{bytes_eq}
 use Rattle.std.proofs.lemmas.Bool.{cond-false}
 use Rattle.text.proofs.Matches.{by_letters}
 use Rattle.network.specs.declared.commands.Command.TheVariants.{Unknown}
 use Rattle.script.specs.Orders.{command_by}
+
+-- fewer than four words behind `set`, and more than five
+pub too_few : (ws : List (Bor (List ℕ))) → length ws < 4 → command_by (codes "set" ∷ map (λ w. w.now) ws) ≡ Unknown
+too_few [] l = refl
+too_few (a ∷ []) l = grind arith
+too_few (a ∷ b ∷ []) l = grind arith
+too_few (a ∷ b ∷ c ∷ []) l = refl
+too_few (a ∷ b ∷ c ∷ d ∷ ws) l = absurd (omega arith)
+
+pub too_many : (ws : List (Bor (List ℕ))) → 6 ≤ length ws → command_by (codes "set" ∷ map (λ w. w.now) ws) ≡ Unknown
+too_many [] l = absurd (omega arith)
+too_many (a ∷ []) l = absurd (omega arith)
+too_many (a ∷ b ∷ []) l = absurd (omega arith)
+too_many (a ∷ b ∷ c ∷ []) l = absurd (omega arith)
+too_many (a ∷ b ∷ c ∷ d ∷ []) l = absurd (omega arith)
+too_many (a ∷ b ∷ c ∷ d ∷ e ∷ []) l = absurd (omega arith)
+too_many (a ∷ b ∷ c ∷ d ∷ e ∷ f ∷ ws) l = refl
 
 -- four words and more, of which the first is not as long as `set`
 pub not_set :
