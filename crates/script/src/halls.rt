@@ -40,7 +40,7 @@ pub fn line_in(line: &[u8]) -> Line
 fn told(words: &[&[u8]]) -> Option<Line>
     ensures { unwrap_or result Unknown ≡ line_by (map (λ w. w.now) words.now) }
 {
-    // tried: one arm for all other lines; where so many branches meet, the check finds no proof
+    // tried: one arm for all that is unknown; where so many branches meet, the check finds no proof
     match words {
         [b"most", n] => Some(Line::Most(number(n)?)),
         [b"lamp", n] => Some(Line::Lamp(number(n)?)),

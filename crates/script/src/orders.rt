@@ -42,6 +42,7 @@ pub fn command_in(line: &[u8]) -> Command
 fn asked(words: &[&[u8]]) -> Option<Command>
     ensures { unwrap_or result Unknown ≡ command_by (map (λ w. w.now) words.now) }
 {
+    // tried: a line of the format to an arm; where so many branches meet, the check finds no proof
     match words {
         [verb] => alone(verb),
         [verb, n] => with_number(verb, n),
