@@ -23,7 +23,7 @@ const TELLING: usize = 7;
 
 const NUMBERS: usize = 6;
 
-// Why the program ends early.
+// Why the program ends early. Each program has its own: shared, it would be a library's type that takes a program's name and usage.
 #[derive(Drop)]
 enum Stop {
     Arguments,

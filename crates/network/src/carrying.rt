@@ -31,7 +31,7 @@ impl Lent<'_, '_, '_, '_, '_> {
         Ok(())
     }
 
-    // All works and all hearings once, in the order that a seed gives.
+    // All works and all hearings once, in the order that a seed gives. Like `fill_all` but for what is done with the doings.
     fn round(&mut self, heap: Global, seed: u32) -> Result<(), AllocError>
         ensures ok { OnOk result (Turns self.old self.new (ran (hall_of self.old.hall.now) (order_of seed (doings_in self.old.hall.now.sites.items)))) }
         ensures err { OnErr result (self.new ≡ self.old) }

@@ -30,6 +30,6 @@ pub enum Command {
     Round(u32),
     // what all lamps worked out last
     Show,
-    // no line of the format
+    // no line of the format: refused in its turn as other commands are, so an Option round each would only move this case
     Unknown,
 }

@@ -34,6 +34,7 @@ impl Field {
 
 impl Lent<'_, '_, '_, '_, '_> {
     // A number of what a lamp remembers of another one, where they are wired.
+    // No struct for `field` and `n`: it would be made of a command's parts and taken apart at once.
     pub(crate) fn set_memory(&mut self, by: u32, of: u32, field: Field, n: u32)
         ensures { Turns self.old self.new (λ net. remembering by of (with_field field n (net.heard by of)) net) }
     {

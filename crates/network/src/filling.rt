@@ -10,6 +10,7 @@ use protocol::state::Numbers;
 use telling::Telling;
 use telling::frame::Reading;
 
+// Three passes, each of one `if let`: one pass with a closure for that would need its whole clause said of the closure.
 impl Lent<'_, '_, '_, '_, '_> {
     // For each hearing, a telling is drawn that the one who hears remembers.
     fn fill_memories(&mut self, doings: &[Doing], draws: &mut Draws)

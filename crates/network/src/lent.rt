@@ -4,7 +4,7 @@ ghost use Rattle.network.specs.Stands.{Roomy};
 
 use topology::hall::Topology;
 
-// The words are just as many as the hall wants.
+// The words are just as many as the hall wants. A `&mut State` in their place was tried: it gets no proof.
 #[derive(Drop)]
 pub(crate) struct Lent<'h, 'm, 'w, 'n, 'l> {
     pub(crate) hall: &'h Topology,

@@ -57,6 +57,7 @@ pub(crate) fn shuffle(doings: &mut [Doing], seed: u32)
     ensures { doings.new ≡ order_of seed doings.old }
 {
     let mut draws = Draws { state: seed };
+    // by index, from the back, since a swap is of two indices
     for k in (0..doings.len()).rev() {
         exchange(doings, k, &mut draws);
     }

@@ -1,6 +1,6 @@
 // The state of a whole hall.
 
-// All that changes in a hall, in words that somebody lends.
+// All that changes in a hall, in words that somebody lends: a rule of the project, for callers with no heap.
 #[derive(Drop)]
 pub struct State<'m, 'w, 'n, 'l> {
     // what is remembered, seven words by slot

@@ -15,6 +15,7 @@ pub struct Own {
 }
 
 // A lamp's own numbers and the places that it is wired to, by rising place; behind those the array holds nothing of meaning.
+// Fixed memory, and it is copied: an ArrayVec would not be.
 #[derive(Clone, Copy)]
 pub struct Site {
     pub(crate) own: Own,

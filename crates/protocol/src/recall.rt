@@ -15,7 +15,7 @@ fn tellings(memory: &[u8], wires: usize) -> [Telling; WIRES]
     ensures { Recalls (λ k. telling_of (part_of memory.now k)) result wires }
 {
     let mut heard = [NOTHING; WIRES];
-    // by index: of what array::from_fn makes, a proof knows no call by the memory that it read
+    // by index: tried with `array::from_fn`, of whose calls a proof does not know which memory they read
     for k in 0..wires {
         heard[k] = Telling::load(memory, k).unwrap_or(NOTHING);
     }

@@ -53,7 +53,7 @@ pub struct Work {
 #[derive(Clone, Copy)]
 pub struct Lamp {
     pub(crate) site: Site,
-    // by wire, the telling last heard on it
+    // by wire, the telling last heard on it: a rule of the project, an array of sixteen
     pub(crate) heard: [Telling; WIRES],
     pub(crate) last: Option<Work>,
 }

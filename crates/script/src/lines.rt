@@ -14,7 +14,7 @@ pub trait Said: Sized {
         ensures { result ≡ by (words_of line.now) };
 }
 
-// What each line of a text says.
+// What each line of a text says. `lines_of` and `commands_of` are this at two types, and say of what the lines are.
 pub(crate) fn each_line<T: Said + Drop>(heap: Global, text: &[u8]) -> Result<Vec<T>, AllocError>
     ensures { IfOk result (λ v. v.items ≡ map (λ line. T.Said.by (words_of line)) (lines_of text.now)) }
 {

@@ -15,6 +15,7 @@ use telling::refusal::Refusal;
 use topology::hall::Topology;
 
 // The line of a lamp, where there is one.
+// No struct for `hall` and `state`: the words are lent by the caller, and what joins them in `network` is made for one command.
 fn lamp_line(heap: Global, hall: &Topology, state: &State, place: u32) -> Result<String, AllocError>
     ensures { IfOk result (λ t. string_bytes t ≡ lamp_line hall.now state.now place) }
 {

@@ -15,7 +15,7 @@ const FIRST: u8 = 76;
 // Where the last of them stands: the check of all before it.
 const CHECK: usize = 29;
 
-// What reading a frame comes to.
+// What reading a frame comes to. A rule of the project: it is an enum of its own, and a definition has each case.
 #[derive(Clone, Copy, PartialEq, Eq, Debug)]
 pub enum Reading {
     Told(Telling),
@@ -64,7 +64,7 @@ impl Reading {
 }
 
 impl Telling {
-    // The frame of this telling.
+    // The frame of this telling. Named as std's `to_be_bytes`: where it is called, `<[u8; FRAME]>::from` reads worse.
     pub fn to_frame(self) -> [u8; FRAME]
         ensures { result ≡ frame_of self }
     {

@@ -53,7 +53,7 @@ fn word_at(bytes: &[u8], k: usize) -> u32
 }
 
 impl Telling {
-    // The telling in 28 bytes.
+    // The telling in 28 bytes. Not a From: it asks for the length, so that a part of a memory is handed on as it is.
     fn from_part(part: &[u8]) -> Telling
         requires { length part.now ≡ 28 }
         ensures { result ≡ telling_of part.now }
@@ -69,7 +69,7 @@ impl Telling {
         }
     }
 
-    // The 28 bytes of this telling.
+    // The 28 bytes of this telling, the other way.
     fn to_part(self) -> [u8; PART]
         ensures { result ≡ bytes_of self }
     {

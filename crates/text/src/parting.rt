@@ -9,6 +9,7 @@ pub fn words<'r, 'l>(line: &'l [u8], room: &'r mut [&'l [u8]]) -> &'r [&'l [u8]]
     ensures { map (λ w. w.now) result.now ≡ take (length room.old) (words_of line.now) }
 {
     let mut rest = Some(line);
+    // by index, since nothing is known of what is written through an `iter_mut`
     for i in 0..room.len() {
         let Some(line) = rest else {
             return room.split_at(i).0;

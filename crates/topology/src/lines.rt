@@ -8,6 +8,6 @@ pub enum Line {
     Lamp(u32),
     // a wire between the lamps at two places
     Wire(u32, u32),
-    // no line of the format
+    // no line of the format: it has a place among the others, so an Option round each would only move this case
     Unknown,
 }
