@@ -23,14 +23,15 @@ pub enum Reason {
     NotJoined,
 }
 
-impl fmt::Display for Reason {
-    ghost use Rattle.std.specs.Prelude.{Some};
+impl Reason {
+    ghost use Rattle.std.specs.Prelude.{◌≡◌};
     ghost use Rattle.topology.specs.Reasons.{reason_text};
 
-    ghost output = { λ reason. Some (reason_text reason) };
-
-    fn fmt<W: fmt::Write>(&self, f: &mut fmt::Formatter<W>) -> fmt::Result {
-        f.write_str(match self {
+    // In plain words.
+    pub fn text(self) -> &'static str
+        ensures { result.now ≡ reason_text self }
+    {
+        match self {
             Reason::Misplaced => "a line that may not stand here",
             Reason::Most => "the most lamps are none, or above 1024",
             Reason::NoLamps => "no lamps",
@@ -40,7 +41,18 @@ impl fmt::Display for Reason {
             Reason::ToItself => "a lamp wired to itself",
             Reason::TooManyWires => "a lamp with more than 16 neighbours",
             Reason::NotJoined => "lamps that do not hang together",
-        })
+        }
+    }
+}
+
+impl fmt::Display for Reason {
+    ghost use Rattle.std.specs.Prelude.{Some};
+    ghost use Rattle.topology.specs.Reasons.{reason_text};
+
+    ghost output = { λ reason. Some (reason_text reason) };
+
+    fn fmt<W: fmt::Write>(&self, f: &mut fmt::Formatter<W>) -> fmt::Result {
+        f.write_str(self.text())
     }
 }
 

@@ -42,7 +42,7 @@ fn refused(
         return Err(Fail::new("not refused"));
     };
     assert_eq!(rt; refused.line, line, "{}", text);
-    assert_eq!(rt; refused.reason.to_string(heap)?.as_str(), text);
+    assert_eq!(rt; refused.reason.text(), text);
     Ok(())
 }
 
