@@ -2,7 +2,7 @@
 #![tactic(auto)]
 
 use network::commands::Command;
-use network::state::State;
+use network::state::{NUMBERS, State, TELLING};
 use protocol::facts::WIRES;
 use script::halls::lines_of;
 use script::orders::commands_of;
@@ -17,11 +17,6 @@ use topology::fault::Refused;
 use topology::hall::Topology;
 
 const USAGE: &str = "hall takes FILE, or --progress FILE";
-
-// as many words as a telling takes, and as a lamp's numbers take
-const TELLING: usize = 7;
-
-const NUMBERS: usize = 6;
 
 // Why the program ends early. Each program has its own: shared, it would be a library's type that takes a program's name and usage.
 #[derive(Drop)]

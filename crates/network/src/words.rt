@@ -2,12 +2,6 @@
 ghost use Rattle.std.specs.Prelude.{◌≡◌, ◌+◌, ◌*◌, ◌≤◌, length};
 ghost use Rattle.network.specs.Words.{part_in, PartPut};
 
-// So many words a telling takes.
-pub(crate) const TELLING: usize = 7;
-
-// And so many the numbers of a lamp.
-pub(crate) const NUMBERS: usize = 6;
-
 // One part of N words.
 pub(crate) fn part<const N: usize>(words: &[u32], place: usize) -> [u32; N]
     requires { N * place + N ≤ length words.now }
