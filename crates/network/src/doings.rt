@@ -17,19 +17,6 @@ use telling::frame::Reading;
 use telling::{NOTHING, Telling};
 
 impl Lent<'_, '_, '_, '_, '_> {
-    // What a lamp remembers, by wire.
-    fn heard_by(&self, place: usize, wires: usize) -> [Telling; WIRES]
-        requires { (wires ≤ 16) × (place < (hall_of self.now.hall.now).count) }
-        ensures { Recalls (λ k. telling_in self.now.memories.now (16 * place + k)) result wires }
-    {
-        let mut heard = [NOTHING; WIRES];
-        // by index, since little is known of what `array::from_fn` or a loop over `iter_mut` leaves
-        for k in 0..wires {
-            heard[k] = self.memory(WIRES * place + k);
-        }
-        heard
-    }
-
     // A lamp hears what lies on the wire from another one, where they are wired; noise changes nothing.
     pub(crate) fn hear(&mut self, by: u32, of: u32)
         ensures { Turns self.old self.new (hearing by of) }
@@ -60,7 +47,8 @@ impl Lent<'_, '_, '_, '_, '_> {
         let Some(site) = site(self.hall, place) else {
             return;
         };
-        let heard = self.heard_by(place as usize, site.places().len());
+        let first = WIRES * place as usize;
+        let heard = site.by_wire(|k| self.memory(first + k));
         if let Some(work) = Lamp::remembering(site, heard).work().worked() {
             self.tell(place, &site, &work);
             self.note(place, work.numbers);

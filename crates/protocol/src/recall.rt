@@ -9,19 +9,6 @@ use std::alloc::{AllocError, Global};
 use telling::refusal::Refusal;
 use telling::{NOTHING, PART, Telling};
 
-// The tellings of a memory by wire.
-fn tellings(memory: &[u8], wires: usize) -> [Telling; WIRES]
-    requires { (wires ≤ 16) × (length memory.now ≡ 28 * wires) }
-    ensures { Recalls (λ k. telling_of (part_of memory.now k)) result wires }
-{
-    let mut heard = [NOTHING; WIRES];
-    // by index: tried with `array::from_fn`, of whose calls a proof does not know which memory they read
-    for k in 0..wires {
-        heard[k] = Telling::load(memory, k).unwrap_or(NOTHING);
-    }
-    heard
-}
-
 impl Lamp {
     // Takes what a memory holds for what was heard last. A memory of another size is refused, and zeros are taken.
     pub fn recall(mut self, memory: &[u8]) -> (Lamp, Result<(), Refusal>)
@@ -30,12 +17,13 @@ impl Lamp {
         ensures refusal { result.1 ≡ taken_of self.site.wires memory.now }
         ensures heard { Recalls (recollection self.site.wires memory.now) result.0.heard self.site.wires }
     {
-        let wires = self.site.wires;
-        if memory.len() != PART * wires {
+        if memory.len() != PART * self.site.wires {
             self.heard = [NOTHING; WIRES];
             return (self, Err(Refusal::Memory));
         }
-        self.heard = tellings(memory, wires);
+        self.heard = self
+            .site
+            .by_wire(|k| Telling::load(memory, k).unwrap_or(NOTHING));
         (self, Ok(()))
     }
 

@@ -1,11 +1,13 @@
 // Making a lamp's site from numbers.
-ghost use Rattle.std.specs.Prelude.{◌≡◌, ◌≤◌, false, length, take, MatchOption, MatchResult};
+ghost use Rattle.std.specs.Prelude.{◌≡◌, ℕ, ◌<◌, ◌≤◌, false, slice_index_or, length, take, MatchOption, MatchResult};
 ghost use Rattle.telling.specs.declared.refusal.Refusal.TheVariants.{Input};
 ghost use Rattle.protocol.specs.Wiring.{is_sound, may_wire, rises_from};
 ghost use Rattle.protocol.specs.Rows.{places_of, Wire, NoWireTo};
+ghost use Rattle.protocol.specs.Rules.{nothing};
 
 use super::facts::{Own, Site, WIRES};
 use telling::refusal::Refusal;
+use telling::{NOTHING, Telling};
 
 // Whether a lamp may be wired to a place, where the ones before it are below `low`.
 fn may_wire(own: Own, low: u32, place: u32) -> bool
@@ -73,5 +75,18 @@ impl Site {
         ensures { MatchOption result (NoWireTo self.now place) (λ k. Wire self.now place k) }
     {
         self.places().iter().position(|p| *p == place)
+    }
+
+    // What a function gives for each wire; behind the last, zeros. It asks of the function only that it may be called there.
+    pub fn by_wire<F: Fn(usize) -> Telling>(&self, of: F) -> [Telling; WIRES]
+        requires { (k : ℕ) → k < self.now.wires → F.pre of k }
+        ensures { (k : ℕ) → k < self.now.wires → F.post of k (slice_index_or result k nothing) }
+    {
+        let mut all = [NOTHING; WIRES];
+        // by index, since nothing is known of what is written through an `iter_mut`
+        for k in 0..self.wires {
+            all[k] = of(k);
+        }
+        all
     }
 }

@@ -1,6 +1,7 @@
-use Rattle.std.proofs.Common.{◌≡◌, ◌+◌, ◌*◌, length, ap, subst, rules}
+use Rattle.std.proofs.Common.{◌≡◌, ◌+◌, ◌*◌, ◌<◌, length, arith, rules}
 use Rattle.protocol.specs.Memories.{Recalls}
 use Rattle.protocol.specs.Rows.{places_of}
+use Rattle.protocol.proofs.Rows.{length-places_of}
 use Rattle.topology.specs.Reading.{hall_of}
 use Rattle.network.specs.Words.{telling_in}
 use Rattle.network.specs.Slots.{told_by}
@@ -22,11 +23,14 @@ returns-in-Some-worked c =
     let site = c.in-Some.site in
     let at = c.in-Some.ensures in
     let work = c.in-Some-worked.work in
-    let heard = c.heard_by-heard.result in
+    let heard = c.by_wire-heard.result in
     let memories = l.memories.now in
     let long : length heard ≡ 16 = search rules in
     let recalls : Recalls (λ k. telling_in memories (16 * i + k)) heard (length (places_of site)) =
-    subst (Recalls (λ k. telling_in memories (16 * i + k)) heard) (ap length c.places.ensures) c.heard_by-heard.ensures in
+    λ k h.
+    let inside : k < site.wires = omega (arith, h, length-places_of site) in
+    let call = c.by_wire-heard.ensures k inside in
+    search rules in
     let told = c.tell.ensures in
     let noted = c.note.ensures in
     record {
