@@ -80,7 +80,8 @@ impl Site {
     // What a function gives for each wire; behind the last, zeros. It asks of the function only that it may be called there.
     pub fn by_wire<F: Fn(usize) -> Telling>(&self, of: F) -> [Telling; WIRES]
         requires { (k : ℕ) → k < self.now.wires → F.pre of k }
-        ensures { (k : ℕ) → k < self.now.wires → F.post of k (slice_index_or result k nothing) }
+        ensures wires { (k : ℕ) → k < self.now.wires → F.post of k (slice_index_or result k nothing) }
+        ensures behind { (k : ℕ) → self.now.wires ≤ k → slice_index_or result k nothing ≡ nothing }
     {
         let mut all = [NOTHING; WIRES];
         // by index, since nothing is known of what is written through an `iter_mut`

@@ -29,7 +29,7 @@ returns-in-Some-worked c =
     let recalls : Recalls (λ k. telling_in memories (16 * i + k)) heard (length (places_of site)) =
     λ k h.
     let inside : k < site.wires = omega (arith, h, length-places_of site) in
-    let call = c.by_wire-heard.ensures k inside in
+    let call = c.by_wire-heard.ensures.wires k inside in
     search rules in
     let told = c.tell.ensures in
     let noted = c.note.ensures in

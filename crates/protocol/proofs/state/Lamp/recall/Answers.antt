@@ -10,5 +10,5 @@ returns-clause-heard c = λ k h.
     let wires = c.args.self.site.wires in
     let has : nat_lt k (length memory / 28) ≡ true = lt-ltb _ _ (omega (arith, c.if-memory-self.false, h)) in
     let right : is_memory wires memory ≡ true = eq-eqb _ _ c.if-memory-self.false in
-    let call = c.by_wire-self.ensures k h in
+    let call = c.by_wire-self.ensures.wires k h in
     search rules
