@@ -44,7 +44,7 @@ impl From<Option<Numbers>> for Answer {
 }
 
 impl Answer {
-    // The answer to what lies on the wire to a place.
+    // The answer to what lies on the wire to a place; no From, since it takes the place too.
     fn told(place: u32, told: Result<Option<[u8; FRAME]>, Refusal>) -> Answer
         ensures { result ≡ told_as place told }
     {
@@ -73,7 +73,7 @@ pub fn answer_to(lamp: Lamp, order: &Order) -> (Lamp, Answer)
     }
 }
 
-// All that is printed for an answer: lines that each end in a line feed.
+// All that is printed for an answer: lines that each end in a line feed. No Display: some are of the lamp, and not of the answer.
 pub fn text_of(heap: Global, lamp: &Lamp, answer: Answer) -> Result<String, AllocError>
     ensures { IfOk result (λ t. string_bytes t ≡ text_of lamp.now answer) }
 {
@@ -106,6 +106,7 @@ fn line_text(heap: Global, answer: Answer) -> Result<String, AllocError>
     }
 }
 
+// No Display, which would have to write digit by digit: the digits are made first.
 fn frame_text(heap: Global, place: u32, frame: &[u8]) -> Result<String, AllocError>
     ensures { IfOk result (λ t. string_bytes t ≡ frame_text place frame.now) }
 {

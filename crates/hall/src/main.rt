@@ -2,7 +2,7 @@
 #![tactic(auto)]
 
 use network::commands::Command;
-use network::state::{NUMBERS, State, TELLING};
+use network::state::{NUMBERS_WORDS, State, TELLING_WORDS};
 use protocol::facts::WIRES;
 use script::halls::lines_of;
 use script::orders::commands_of;
@@ -18,7 +18,7 @@ use topology::hall::Topology;
 
 const USAGE: &str = "hall takes FILE, or --progress FILE";
 
-// Why the program ends early. Each program has its own: shared, it would be a library's type that takes a program's name and usage.
+// Why the program ends early. Not shared, and so is `main`: each program has its own name and usage.
 #[derive(Drop)]
 enum Stop {
     Arguments,
@@ -49,10 +49,10 @@ impl From<Fault<Refused>> for Stop {
 
 impl fmt::Display for Stop {
     fn fmt<W: fmt::Write>(&self, f: &mut fmt::Formatter<W>) -> fmt::Result {
-        let number = Refusal::Input;
+        let refusal = Refusal::Input;
         match self {
-            Stop::Arguments => write!(f, "{number} {USAGE}"),
-            Stop::Hall(refused) => write!(f, "{number} {refused}"),
+            Stop::Arguments => write!(f, "{refusal} {USAGE}"),
+            Stop::Hall(refused) => write!(f, "{refusal} {refused}"),
             Stop::Failed(error) => write!(f, "hall: {error}"),
         }
     }
@@ -133,10 +133,10 @@ fn start(
     let count = hall.sites().len();
     let slots = WIRES * count;
     let heap = rt.alloc();
-    let mut memories = vec![in heap; 0; TELLING * slots]?;
-    let mut wires = vec![in heap; 0; TELLING * slots]?;
+    let mut memories = vec![in heap; 0; TELLING_WORDS * slots]?;
+    let mut wires = vec![in heap; 0; TELLING_WORDS * slots]?;
     let mut noise = vec![in heap; 0; slots]?;
-    let mut lamps = vec![in heap; 0; NUMBERS * count]?;
+    let mut lamps = vec![in heap; 0; NUMBERS_WORDS * count]?;
     let mut state = State {
         memories: memories.as_mut_slice(),
         wires: wires.as_mut_slice(),

@@ -12,8 +12,9 @@ use super::lent::Lent;
 use super::order::{all_doings, shuffle};
 use super::refusals::refusal_of;
 use super::slots::hangs;
-use super::state::{NUMBERS, State, TELLING};
+use super::state::{NUMBERS_WORDS, State, TELLING_WORDS};
 use super::words::part;
+use model::Doing;
 use protocol::facts::WIRES;
 use protocol::state::Numbers;
 use std::alloc::{AllocError, Global};
@@ -22,24 +23,12 @@ use telling::refusal::Refusal;
 use topology::hall::Topology;
 
 impl Lent<'_, '_, '_, '_, '_> {
-    fn fill_all(&mut self, heap: Global, seed: u32) -> Result<(), AllocError>
-        ensures ok { OnOk result (Turns self.old self.new (all_filled (doings_in self.old.hall.now.sites.items) seed)) }
-        ensures err { OnErr result (self.new ≡ self.old) }
+    // All works and all hearings once, in the order that a seed gives.
+    fn round(&mut self, doings: &mut [Doing], seed: u32)
+        ensures { Turns self.old self.new (ran (hall_of self.old.hall.now) (order_of seed doings.old)) }
     {
-        let doings = all_doings(heap, self.hall.sites())?;
-        self.fill(doings.as_slice(), seed);
-        Ok(())
-    }
-
-    // All works and all hearings once, in the order that a seed gives. Like `fill_all` but for what is done with the doings.
-    fn round(&mut self, heap: Global, seed: u32) -> Result<(), AllocError>
-        ensures ok { OnOk result (Turns self.old self.new (ran (hall_of self.old.hall.now) (order_of seed (doings_in self.old.hall.now.sites.items)))) }
-        ensures err { OnErr result (self.new ≡ self.old) }
-    {
-        let mut doings = all_doings(heap, self.hall.sites())?;
-        shuffle(doings.as_mut_slice(), seed);
-        self.run(doings.as_slice());
-        Ok(())
+        shuffle(doings, seed);
+        self.run(doings);
     }
 
     // Does what a command that is not refused asks for.
@@ -48,8 +37,14 @@ impl Lent<'_, '_, '_, '_, '_> {
         ensures err { OnErr result (self.new ≡ self.old) }
     {
         match command {
-            Command::Fill(seed) => self.fill_all(heap, seed)?,
-            Command::Round(seed) => self.round(heap, seed)?,
+            Command::Fill(seed) => {
+                let doings = all_doings(heap, self.hall.sites())?;
+                self.fill(doings.as_slice(), seed);
+            }
+            Command::Round(seed) => {
+                let mut doings = all_doings(heap, self.hall.sites())?;
+                self.round(doings.as_mut_slice(), seed);
+            }
             Command::SetMemory(by, of, field, n) => self.set_memory(by, of, field, n),
             Command::SetWire(from, to, field, n) => self.set_wire(from, to, field, n),
             Command::SetNoise(from, to) => self.lay(from, to, Reading::Noise),
@@ -68,12 +63,13 @@ impl State<'_, '_, '_, '_> {
     {
         let count = hall.sites().len();
         let slots = WIRES * count;
-        self.memories.len() == TELLING * slots
-            && self.wires.len() == TELLING * slots
+        self.memories.len() == TELLING_WORDS * slots
+            && self.wires.len() == TELLING_WORDS * slots
             && self.noise.len() == slots
-            && self.lamps.len() == NUMBERS * count
+            && self.lamps.len() == NUMBERS_WORDS * count
     }
 
+    // Two results: a script goes on behind a refusal, and ends for want of memory.
     // Carries a command out, or refuses it and changes nothing. Where no memory is had, nothing has changed either.
     pub fn carry_out(
         &mut self,

@@ -1,9 +1,6 @@
 // What one doing makes of the state.
-ghost use Rattle.std.specs.Prelude.{◌+◌, ◌*◌, ◌<◌, ◌≤◌, length};
-ghost use Rattle.protocol.specs.Memories.{Recalls};
 ghost use Rattle.model.specs.Nets.{hearing, telling, working, did, ran};
 ghost use Rattle.topology.specs.Reading.{hall_of};
-ghost use Rattle.network.specs.Words.{telling_in};
 ghost use Rattle.network.specs.Slots.{SiteOf, told_by};
 ghost use Rattle.network.specs.Turns.{Turns};
 
@@ -14,7 +11,6 @@ use model::Doing;
 use protocol::facts::{Site, WIRES};
 use protocol::state::{Lamp, Work};
 use telling::frame::Reading;
-use telling::{NOTHING, Telling};
 
 impl Lent<'_, '_, '_, '_, '_> {
     // A lamp hears what lies on the wire from another one, where they are wired; noise changes nothing.
@@ -34,8 +30,7 @@ impl Lent<'_, '_, '_, '_, '_> {
         requires { SiteOf (hall_of self.old.hall.now) place site.now }
         ensures { Turns self.old self.new (telling (hall_of self.old.hall.now) place (told_by site.now work.now)) }
     {
-        let places = site.places();
-        for (k, to) in places.iter().enumerate() {
+        for (k, to) in site.places().iter().enumerate() {
             self.lay(place, *to, Reading::Told(work.telling(k)));
         }
     }

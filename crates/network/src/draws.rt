@@ -40,9 +40,9 @@ impl Draws {
         ensures next { self.new.state ≡ after N self.old.state }
     {
         let mut numbers = [0; N];
-        // by index, since little is known of what `array::from_fn` or a loop over `iter_mut` leaves
-        for k in 0..N {
-            numbers[k] = self.number();
+        for number in numbers.iter_mut() {
+            let drawn = self.number();
+            *number = drawn;
         }
         numbers
     }

@@ -10,7 +10,7 @@ use model::Doing;
 use protocol::facts::Site;
 use std::alloc::{AllocError, Global};
 
-// Adds the hearings of one lamp.
+// Adds the hearings of one lamp. No `extend` with a chain, of which a proof is told too little.
 fn push_hearings(doings: &mut Vec<Doing>, site: &Site) -> Result<(), AllocError>
     ensures { OnOk result (doings.new.items ≡ doings.old.items ++ hearings_of site.now) }
 {
@@ -21,21 +21,21 @@ fn push_hearings(doings: &mut Vec<Doing>, site: &Site) -> Result<(), AllocError>
     Ok(())
 }
 
-fn push_works(doings: &mut Vec<Doing>, sites: &[Site]) -> Result<(), AllocError>
-    ensures { OnOk result (doings.new.items ≡ doings.old.items ++ map (λ s. Work s.own.place) sites.now) }
+// The works of all lamps.
+fn works(heap: Global, sites: &[Site]) -> Result<Vec<Doing>, AllocError>
+    ensures { IfOk result (λ doings. doings.items ≡ map (λ s. Work s.own.place) sites.now) }
 {
-    for site in sites {
-        doings.push(Doing::Work(site.own().place))?;
-    }
-    Ok(())
+    sites
+        .iter()
+        .map(|site| Doing::Work(site.own().place))
+        .collect(heap)
 }
 
 // All works, and then all hearings.
 pub(crate) fn all_doings(heap: Global, sites: &[Site]) -> Result<Vec<Doing>, AllocError>
     ensures { IfOk result (λ doings. doings.items ≡ doings_in sites.now) }
 {
-    let mut doings = Vec::new(heap);
-    push_works(&mut doings, sites)?;
+    let mut doings = works(heap, sites)?;
     for site in sites {
         push_hearings(&mut doings, site)?;
     }

@@ -15,7 +15,7 @@ pub(crate) fn hangs(hall: &Topology, place: u32) -> bool
 }
 
 // The slot of what a lamp hears of another, where there is a wire between them.
-// No struct for `by` and `of`: the model's functions take two places, so it would be taken apart in each clause.
+// No struct for `by` and `of`, or `from` and `to`: the model's functions take two places, so each clause would take it apart.
 pub(crate) fn slot(hall: &Topology, by: u32, of: u32) -> Option<usize>
     ensures found { MatchOption result (is_wired (hall_of hall.now) by of ≡ false) (λ s. Slot (hall_of hall.now) by of s) }
     ensures below { IfSome result (λ s. s < 16 * (hall_of hall.now).count) }

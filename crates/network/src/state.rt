@@ -1,10 +1,10 @@
 // The state of a whole hall.
 
 // So many words a telling takes.
-pub const TELLING: usize = 7;
+pub const TELLING_WORDS: usize = 7;
 
-// And so many the numbers of a lamp.
-pub const NUMBERS: usize = 6;
+// So many words the numbers of a lamp take.
+pub const NUMBERS_WORDS: usize = 6;
 
 // All that changes in a hall, in words that somebody lends: a rule of the project, for callers with no heap.
 #[derive(Drop)]

@@ -1,4 +1,4 @@
-// A lamp's numbers as six words, as a telling's are seven: each pair names its own fields, and no derive writes them.
+// A lamp's numbers as six words, and back: its fields are its own, so it shares no code with a telling.
 ghost use Rattle.std.specs.Prelude.{◌≡◌};
 ghost use Rattle.protocol.specs.Words.{words_of_numbers, numbers_of_words};
 

@@ -1,6 +1,5 @@
 // A lamp's memory in bytes that somebody lends, as they are kept while the lamp is off.
-ghost use Rattle.std.specs.Prelude.{◌≡◌, ◌*◌, ◌≤◌, length, IfOk, MatchResult};
-ghost use Rattle.telling.specs.Layout.{telling_of, part_of};
+ghost use Rattle.std.specs.Prelude.{◌≡◌, ◌*◌, length, IfOk, MatchResult};
 ghost use Rattle.protocol.specs.Memories.{taken_of, recollection, Recalls, Holds, RecalledAsStored};
 
 use super::facts::WIRES;

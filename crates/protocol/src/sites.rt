@@ -77,14 +77,15 @@ impl Site {
         self.places().iter().position(|p| *p == place)
     }
 
-    // What a function gives for each wire; behind the last, zeros. It asks of the function only that it may be called there.
+    // What a function gives for each wire; behind the last, zeros.
+    // It asks of the function only that it may be called there.
     pub fn by_wire<F: Fn(usize) -> Telling>(&self, of: F) -> [Telling; WIRES]
         requires { (k : ℕ) → k < self.now.wires → F.pre of k }
         ensures wires { (k : ℕ) → k < self.now.wires → F.post of k (slice_index_or result k nothing) }
         ensures behind { (k : ℕ) → self.now.wires ≤ k → slice_index_or result k nothing ≡ nothing }
     {
         let mut all = [NOTHING; WIRES];
-        // by index, since nothing is known of what is written through an `iter_mut`
+        // by index: what an enumerate over iter_mut writes is not known, and array::from_fn got no proof
         for k in 0..self.wires {
             all[k] = of(k);
         }

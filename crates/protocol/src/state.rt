@@ -5,7 +5,7 @@ use super::facts::{Site, WIRES};
 use std::fmt;
 use telling::Telling;
 
-// The six numbers that a lamp works out.
+// The six numbers that a lamp works out: a telling has them too, but is read and kept as seven numbers in a row.
 #[derive(Clone, Copy, PartialEq, Eq, Debug)]
 pub struct Numbers {
     // the lowest name that it knows of
@@ -45,6 +45,7 @@ impl fmt::Display for Numbers {
 #[derive(Clone, Copy)]
 pub struct Work {
     pub numbers: Numbers,
+    // by wire, as fixed memory
     pub given: [u32; WIRES],
     ghost full: { length given ≡ 16 },
 }

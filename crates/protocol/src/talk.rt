@@ -94,7 +94,8 @@ impl Lamp {
         Ok(())
     }
 
-    // Remembers what a frame from a neighbour says, or refuses and changes nothing.
+    // Remembers what a frame from a neighbour says, or refuses and changes nothing. A rule of the project: the lamp is handed
+    // over by value and back in either case.
     pub fn hear(mut self, from: u32, frame: &[u8]) -> (Lamp, Result<(), Refusal>)
         ensures { Heard (reading_of frame.now) from self result.0 result.1 }
     {

@@ -48,7 +48,7 @@ impl Best {
         }
     }
 
-    // Whether a neighbour that said this is a child of the lamp at this place: the two are of different lamps, so no struct joins them.
+    // Whether the lamp at this place has a child that said this. No struct joins them: they are of two lamps.
     fn is_child(self, place: u32, said: Telling) -> bool
         ensures { result ≡ is_child place self said }
     {

@@ -19,21 +19,15 @@ pub fn lines_of(heap: Global, text: &[u8]) -> Result<Vec<Line>, AllocError>
     each_line(heap, text)
 }
 
+// What a line says: its words are parted by one space each.
 impl Said for Line {
     ghost by = { line_by };
 
     fn said(line: &[u8]) -> Line {
-        line_in(line)
+        // a fourth word is enough to see that there are too many
+        let mut room = [line; 4];
+        told(words(line, &mut room)).unwrap_or(Line::Unknown)
     }
-}
-
-// What a line says: its words are parted by one space each.
-pub fn line_in(line: &[u8]) -> Line
-    ensures { result ≡ line_by (words_of line.now) }
-{
-    // a fourth word is enough to see that there are too many
-    let mut room = [line; 4];
-    told(words(line, &mut room)).unwrap_or(Line::Unknown)
 }
 
 // What words say: none where they are no line of the format.

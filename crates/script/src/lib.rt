@@ -3,7 +3,6 @@
 
 pub mod answers;
 pub mod halls;
-mod lines;
+pub mod lines;
 pub mod orders;
 pub mod performing;
-mod words;

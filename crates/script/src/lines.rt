@@ -6,7 +6,7 @@ ghost use Rattle.script.specs.Lines.{lines_of};
 use std::alloc::{AllocError, Global};
 use text::cut_at;
 
-// What a line says, by its words.
+// What a line says, by its words; without memory, so that it cannot fail.
 pub trait Said: Sized {
     ghost by: { List (List ℕ) → Self };
 
@@ -20,6 +20,7 @@ pub(crate) fn each_line<T: Said + Drop>(heap: Global, text: &[u8]) -> Result<Vec
 {
     let mut all = Vec::new(heap);
     let mut rest = text;
+    // not by split_inclusive, which leaves each line its line feed to be cut off again
     while !rest.is_empty() {
         let (line, after) = next_line(rest);
         all.push(T::said(line))?;

@@ -7,7 +7,6 @@ ghost use Rattle.script.specs.Lines.{lines_of};
 ghost use Rattle.script.specs.Orders.{field_of, lamp_field_of, set_by, command_by};
 
 use super::lines::{Said, each_line};
-use super::words::two_numbers;
 use model::Doing;
 use network::commands::{Command, Field};
 use std::alloc::{AllocError, Global};
@@ -21,21 +20,15 @@ pub fn commands_of(heap: Global, text: &[u8]) -> Result<Vec<Command>, AllocError
     each_line(heap, text)
 }
 
+// What a line asks for: its words are parted by one space each.
 impl Said for Command {
     ghost by = { command_by };
 
     fn said(line: &[u8]) -> Command {
-        command_in(line)
+        // a seventh word is enough to see that there are too many
+        let mut room = [line; 7];
+        asked(words(line, &mut room)).unwrap_or(Command::Unknown)
     }
-}
-
-// What a line asks for: its words are parted by one space each.
-pub fn command_in(line: &[u8]) -> Command
-    ensures { result ≡ command_by (words_of line.now) }
-{
-    // a seventh word is enough to see that there are too many
-    let mut room = [line; 7];
-    asked(words(line, &mut room)).unwrap_or(Command::Unknown)
 }
 
 // What words ask for: none where they are no line of the format.
@@ -80,7 +73,7 @@ fn with_number(verb: &[u8], n: &[u8]) -> Option<Command>
 fn with_places(verb: &[u8], first: &[u8], second: &[u8]) -> Option<Command>
     ensures { unwrap_or result Unknown ≡ command_by (verb.now ∷ first.now ∷ second.now ∷ []) }
 {
-    let (to, from) = two_numbers(first, second)?;
+    let (to, from) = (number(first)?, number(second)?);
     match verb {
         b"hear" => Some(Command::Do(Doing::Hear(to, from))),
         _ => None,
@@ -115,7 +108,7 @@ fn set_lamp_or_noise(kind: &[u8], first: &[u8], second: &[u8], third: &[u8]) -> 
 fn set_telling(kind: &[u8], first: &[u8], second: &[u8], field: &[u8], n: &[u8]) -> Option<Command>
     ensures { unwrap_or result Unknown ≡ set_by kind.now first.now second.now (field.now ∷ n.now ∷ []) }
 {
-    let (first, second) = two_numbers(first, second)?;
+    let (first, second) = (number(first)?, number(second)?);
     let (field, n) = (field_of(field)?, number(n)?);
     match kind {
         b"memory" => Some(Command::SetMemory(first, second, field, n)),
@@ -135,6 +128,7 @@ fn lamp_field(word: &[u8]) -> Option<Field>
     }
 }
 
+// No TryFrom: the field is of another crate, which has no text.
 #[tactic(auto, using(text::proofs::Matches::by_letters))]
 fn field_of(word: &[u8]) -> Option<Field>
     ensures { result ≡ field_of word.now }

@@ -1,4 +1,4 @@
-// A telling as seven words. A lamp's numbers have a pair of their own: each names its own fields, and no derive writes them.
+// A telling as seven words, and back: no derive writes it.
 ghost use Rattle.std.specs.Prelude.{◌≡◌};
 ghost use Rattle.telling.specs.Words.{words_of_telling, telling_of_words};
 

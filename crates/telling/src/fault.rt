@@ -19,6 +19,7 @@ impl<R> From<AllocError> for Fault<R> {
     }
 }
 
+// One for each kind of refusal: From<R> for every R would overlap with that of AllocError.
 impl From<Refusal> for Fault<Refusal> {
     ghost use Rattle.std.specs.Prelude.{◌≡◌};
     ghost use Rattle.telling.specs.declared.fault.Fault.TheVariants.{Refused};

@@ -69,7 +69,7 @@ impl Telling {
         }
     }
 
-    // The 28 bytes of this telling, the other way.
+    // The 28 bytes of this telling. A loop over its words would be no plainer: it would lay four bytes at a time by index.
     fn to_part(self) -> [u8; PART]
         ensures { result ≡ bytes_of self }
     {

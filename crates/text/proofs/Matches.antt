@@ -41,20 +41,8 @@ words_are [] (suc n) e = absurd (omega arith)
 words_are (w ∷ ws) zero e = absurd (omega arith)
 words_are (w ∷ ws) (suc n) e = ap (λ others. w.now ∷ others) (words_are ws n (omega arith) ∙ sym (words_behind w ws 0 n))
 
-pub one_word : (ws : List (Bor (List ℕ))) → length ws ≡ 1 → map (λ w. w.now) ws ≡ words_from ws 0 1
-one_word ws = words_are ws 1
-
 pub two_words : (ws : List (Bor (List ℕ))) → length ws ≡ 2 → map (λ w. w.now) ws ≡ words_from ws 0 2
 two_words ws = words_are ws 2
 
 pub three_words : (ws : List (Bor (List ℕ))) → length ws ≡ 3 → map (λ w. w.now) ws ≡ words_from ws 0 3
 three_words ws = words_are ws 3
-
-pub four_words : (ws : List (Bor (List ℕ))) → length ws ≡ 4 → map (λ w. w.now) ws ≡ words_from ws 0 4
-four_words ws = words_are ws 4
-
-pub five_words : (ws : List (Bor (List ℕ))) → length ws ≡ 5 → map (λ w. w.now) ws ≡ words_from ws 0 5
-five_words ws = words_are ws 5
-
-pub six_words : (ws : List (Bor (List ℕ))) → length ws ≡ 6 → map (λ w. w.now) ws ≡ words_from ws 0 6
-six_words ws = words_are ws 6

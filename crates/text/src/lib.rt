@@ -12,7 +12,7 @@ use std::alloc::{AllocError, Global};
 
 pub mod parting;
 
-// The decimal number that a word writes: digits alone, and at most `u32::MAX`.
+// The decimal number that a word writes: digits alone, and at most `u32::MAX`. Not std's parse, which takes text, and a sign.
 pub fn number(word: &[u8]) -> Option<u32>
     ensures { result ≡ number_of word.now }
 {
@@ -30,13 +30,11 @@ pub fn number(word: &[u8]) -> Option<u32>
 fn with_digit(read: u32, b: u8) -> Option<u32>
     ensures { result ≡ with_digit read b }
 {
-    match b {
-        b'0'..=b'9' => read.checked_mul(10)?.checked_add(u32::from(b - b'0')),
-        _ => None,
-    }
+    read.checked_mul(10)?
+        .checked_add(char::from(b).to_digit(10)?)
 }
 
-// Bytes in hexadecimal, in lower case.
+// Bytes in hexadecimal, in lower case. The crate hex would be no plainer: its laws are of an encoding by a table and by position.
 pub fn hex_of(heap: Global, bytes: &[u8]) -> Result<String, AllocError>
     ensures { IfOk result (λ t. string_bytes t ≡ hex_of bytes.now) }
 {
@@ -53,10 +51,7 @@ fn hex_digit(n: u8) -> char
     ensures value { result ≡ hex_digit n }
     ensures ascii { result < 128 }
 {
-    match n {
-        0..=9 => char::from(b'0' + n),
-        _ => char::from(b'a' + (n - 10)),
-    }
+    char::from_digit(u32::from(n), 16).unwrap_or('0')
 }
 
 // The bytes that hexadecimal digits write, in either case: none where they write no bytes.
@@ -65,6 +60,7 @@ pub fn bytes_of(heap: Global, digits: &[u8]) -> Result<Option<Vec<u8>>, AllocErr
 {
     let mut bytes = Vec::new(heap);
     let mut rest = digits;
+    // two at a time by a pattern, which leaves the odd one; of chunks it would have to be told apart
     while let [high, low, after @ ..] = rest {
         let Some(byte) = byte_of(*high, *low) else {
             return Ok(None);
@@ -84,22 +80,14 @@ fn byte_of(high: u8, low: u8) -> Option<u8>
 fn hex_value(c: u8) -> Option<u8>
     ensures { result ≡ hex_value c }
 {
-    match c {
-        b'0'..=b'9' => Some(c - b'0'),
-        b'a'..=b'f' => Some(c - b'a' + 10),
-        b'A'..=b'F' => Some(c - b'A' + 10),
-        _ => None,
-    }
+    char::from(c).to_digit(16).map(|digit| digit as u8)
 }
 
 // A line as it was read, without the line feed at its end.
 pub fn line_of(read: &[u8]) -> &[u8]
     ensures { result.now ≡ line_of read.now }
 {
-    match read {
-        [line @ .., b'\n'] => line,
-        _ => read,
-    }
+    read.strip_suffix(b"\n").unwrap_or(read)
 }
 
 // Where the first byte of a kind stands.

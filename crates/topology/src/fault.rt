@@ -27,7 +27,7 @@ impl Reason {
     ghost use Rattle.std.specs.Prelude.{◌≡◌};
     ghost use Rattle.topology.specs.Reasons.{reason_text};
 
-    // In plain words.
+    // In plain words; beside Display, since it cannot fail.
     pub fn text(self) -> &'static str
         ensures { result.now ≡ reason_text self }
     {
@@ -90,6 +90,7 @@ impl fmt::Display for Refused {
     }
 }
 
+// As for any kind of refusal: From<R> for every R would overlap with that of AllocError.
 impl From<Refused> for Fault<Refused> {
     ghost use Rattle.std.specs.Prelude.{◌≡◌};
     ghost use Rattle.telling.specs.declared.fault.Fault.TheVariants as fault;

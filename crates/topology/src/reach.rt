@@ -11,10 +11,12 @@ use std::alloc::{AllocError, Global};
 fn touches(site: &Site, reached: &[bool]) -> bool
     ensures { result ≡ touches site.now reached.now }
 {
-    site.places().iter().any(|place| reached.get(*place as usize).copied().unwrap_or(false))
+    site.places()
+        .iter()
+        .any(|place| reached.get(*place as usize) == Some(&true))
 }
 
-// Reaches the lamp at a place if a neighbour is reached. Whether it was not before.
+// Reaches the lamp at a place if a neighbour is reached. Whether it was not before, as a set's insert answers.
 fn reach(site: &Site, place: usize, reached: &mut [bool]) -> bool
     requires { place < length reached.old }
     ensures next { result ≡ is_next reached.old site.now place }
@@ -49,6 +51,7 @@ pub(crate) fn hang_together(heap: Global, sites: &[Site]) -> Result<bool, AllocE
     let mut reached = vec![in heap; false; sites.len()]?;
     let reached = reached.as_mut_slice();
     reached[0] = true;
+    // until a pass reaches nobody more
     while spread(sites, reached) {}
     Ok(reached.iter().all(|on| *on))
 }

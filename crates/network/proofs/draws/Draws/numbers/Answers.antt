@@ -3,16 +3,16 @@ use Rattle.std.proofs.lemmas.List.{length-replicate}
 use Rattle.network.proofs.Numbers.{drawn_none, drawn_more, after_more}
 use Rattle.network.proofs.draws.Draws.numbers.Goals as goal
 
-pub loop-k-init : goal.loop-k-init
-loop-k-init g c = (drawn_none c.args.self.now.state, refl, length-replicate _ _)
+pub loop-number-init : goal.loop-number-init
+loop-number-init g c = (drawn_none c.args.self.now.state, refl, length-replicate _ _)
 
-pub loop-k-preserved : goal.loop-k-preserved
-loop-k-preserved g c =
-    let k = c.loop-k.k in
+pub loop-number-preserved : goal.loop-number-preserved
+loop-number-preserved g c =
+    let k = c.loop-number.number-index in
     let s = c.args.self.now.state in
-    let inside : k < length c.loop-k.numbers = omega (arith, c.loop-k.invariant.2) in
-    let drawn = c.number.ensures in (
-      drawn_more s c.loop-k.self.state c.number.result c.loop-k.numbers k inside c.loop-k.invariant.0 c.loop-k.invariant.1 drawn.value,
-      after_more s c.loop-k.self.state c.number.new.self.state k c.loop-k.invariant.1 drawn.next,
-      length-set c.loop-k.numbers k _ ∙ c.loop-k.invariant.2,
+    let inside : k < length c.loop-number.number-items = omega (arith, c.loop-number-test.true, c.loop-number.invariant.2) in
+    let drawn = c.number-drawn.ensures in (
+      drawn_more s c.loop-number.self.state c.number-drawn.result c.loop-number.number-items k inside c.loop-number.invariant.0 c.loop-number.invariant.1 drawn.value,
+      after_more s c.loop-number.self.state c.number-drawn.new.self.state k c.loop-number.invariant.1 drawn.next,
+      length-set c.loop-number.number-items k _ ∙ c.loop-number.invariant.2,
     )

@@ -1,5 +1,9 @@
-use Rattle.std.proofs.Common.{rules}
-use Rattle.network.specs.Effects.{effect_of}
+use Rattle.std.proofs.Common.{ap, ◌∙◌, subst, rules}
+use Rattle.model.specs.Nets.{ran}
+use Rattle.topology.specs.Reading.{hall_of}
+use Rattle.network.specs.Order.{doings_in, order_of}
+use Rattle.network.specs.Turns.{Turns}
+use Rattle.network.specs.Effects.{all_filled, effect_of}
 use Rattle.network.proofs.lent.Lent.apply.Goals as goal
 
 pub returns-in-SetMemory-clause-ok : goal.returns-in-SetMemory-clause-ok
@@ -22,13 +26,17 @@ pub returns-in-Do-clause-ok : goal.returns-in-Do-clause-ok
 unfolding effect_of
 returns-in-Do-clause-ok c = rw c.in-Do.is c.carry.ensures
 
-pub returns-in_ok-fill_all-in-Fill-clause-ok : goal.returns-in_ok-fill_all-in-Fill-clause-ok
+pub returns-in_ok-doings-in-Fill-clause-ok : goal.returns-in_ok-doings-in-Fill-clause-ok
 unfolding effect_of
-returns-in_ok-fill_all-in-Fill-clause-ok c = rw c.in-Fill.is c.in_ok-fill_all-in-Fill.ensures.ok
+returns-in_ok-doings-in-Fill-clause-ok c =
+    let all = c.as_slice.ensures.value ∙ c.in_ok-doings-in-Fill.ensures ∙ ap doings_in c.sites.ensures in
+    rw c.in-Fill.is (subst (λ doings. Turns c.args.self.now c.fill.new.self (all_filled doings c.in-Fill.seed)) all c.fill.ensures)
 
-pub returns-in_ok-round-in-Round-clause-ok : goal.returns-in_ok-round-in-Round-clause-ok
+pub returns-in_ok-doings-in-Round-clause-ok : goal.returns-in_ok-doings-in-Round-clause-ok
 unfolding effect_of
-returns-in_ok-round-in-Round-clause-ok c = rw c.in-Round.is c.in_ok-round-in-Round.ensures.ok
+returns-in_ok-doings-in-Round-clause-ok c =
+    let all = c.as_mut_slice.ensures.value ∙ c.in_ok-doings-in-Round.ensures ∙ ap doings_in c.sites-in-Round.ensures in
+    rw c.in-Round.is (subst (λ doings. Turns c.args.self.now c.round.new.self (ran (hall_of c.args.self.now.hall.now) (order_of c.in-Round.seed doings))) all c.round.ensures)
 
 pub returns-in-Show : goal.returns-in-Show
 unfolding effect_of

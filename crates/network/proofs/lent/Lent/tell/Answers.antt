@@ -20,8 +20,8 @@ loop-k-preserved c =
     let site = c.args.site.now in
     let work = c.args.work.now in
     let k = c.loop-k.k in
-    let places = c.places-places.result.now in
-    let lent : places ≡ places_of site = c.places-places.ensures in
+    let places = c.places-to-items.result.now in
+    let lent : places ≡ places_of site = c.places-to-items.ensures in
     let inside : k < length (places_of site) = omega (arith, ap length lent) in
     let kth = told_kth l.hall.now (state_in l) c.args.place site work c.requires k inside in
     let said = c.telling.ensures ∙ kth ∙ ap (λ ps. telling_at (get_or ps k 0) (told_by site work)) (sym lent) in
@@ -35,6 +35,6 @@ loop-k-preserved c =
 
 pub returns : goal.returns
 returns c =
-    let places = c.places-places.result.now in
+    let places = c.places-to-items.result.now in
     subst (λ ps. Turns c.args.self.now c.loop-k.self (part_told c.args.place ps (told_by c.args.site.now c.args.work.now)))
-    (take_all c.loop-k.k places c.loop-k-test.false ∙ c.places-places.ensures ∙ sym c.requires.places) c.loop-k.invariant
+    (take_all c.loop-k.k places c.loop-k-test.false ∙ c.places-to-items.ensures ∙ sym c.requires.places) c.loop-k.invariant

@@ -6,4 +6,4 @@ use Rattle.network.proofs.lent.Lent.tell.Given as goal
 
 -- the wires so far have their tellings
 abbrev pub invariant-loop-k : goal.invariant-loop-k
-invariant-loop-k l = Turns l.initial.self l.self (part_told l.place (take l.k l.places) (told_by l.site l.work))
+invariant-loop-k l = Turns l.initial.self l.self (part_told l.place (take l.k l.to-items) (told_by l.site l.work))
