@@ -10,7 +10,7 @@ use model::Doing;
 use protocol::facts::Site;
 use std::alloc::{AllocError, Global};
 
-// Adds the hearings of one lamp. No `extend` with a chain, of which a proof is told too little.
+// Adds the hearings of one lamp. Tried: `extend` with a chain, behind which the check leaves open what the list holds.
 fn push_hearings(doings: &mut Vec<Doing>, site: &Site) -> Result<(), AllocError>
     ensures { OnOk result (doings.new.items ≡ doings.old.items ++ hearings_of site.now) }
 {
