@@ -33,7 +33,7 @@ def code(text):
 def functions(text):
     """Name, parameters, result and body of each function."""
     text = code(text)
-    for m in re.finditer(r"\bfn (\w+)(<[^(]*>)?\(([^)]*)\)\s*(->[^{;]*)?\{", text):
+    for m in re.finditer(r"\bfn (\w+)(<(?:[^<>]|->|<[^<>]*>)*>)?\(((?:[^()]|\(\))*)\)\s*(->[^{;]*)?\{", text):
         depth, end = 1, m.end()
         while depth:
             depth += {"{": 1, "}": -1}.get(text[end], 0)

@@ -18,7 +18,7 @@ use topology::hall::Topology;
 
 const USAGE: &str = "hall takes FILE, or --progress FILE";
 
-// Why the program ends early. Not shared, and so is `main`: each program has its own name and usage.
+// Why the program ends early. Neither this, nor what turns into it, nor `main` is shared: each program has its own name and usage.
 #[derive(Drop)]
 enum Stop {
     Arguments,

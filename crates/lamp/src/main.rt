@@ -19,7 +19,7 @@ const MEMORY: &str = "memory";
 const USAGE: &str =
     "lamp takes MOST PLACE NAME NEIGHBOUR.., numbers up to 4294967295 in digits alone: MOST from 1 to 1024, places below MOST, at most 16 neighbours, none of them PLACE";
 
-// Why the program ends early. Not shared, and so is `main`: each program has its own name and usage.
+// Why the program ends early. Neither this, nor what turns into it, nor `main` is shared: each program has its own name and usage.
 #[derive(Drop)]
 enum Stop {
     Refused(Refusal),

@@ -69,8 +69,8 @@ impl State<'_, '_, '_, '_> {
             && self.lamps.len() == NUMBERS_WORDS * count
     }
 
-    // Two results: a script goes on behind a refusal, and ends for want of memory.
     // Carries a command out, or refuses it and changes nothing. Where no memory is had, nothing has changed either.
+    // Two results: a script goes on behind a refusal, and ends for want of memory.
     pub fn carry_out(
         &mut self,
         heap: Global,

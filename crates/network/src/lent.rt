@@ -4,8 +4,8 @@ ghost use Rattle.network.specs.Stands.{Roomy};
 
 use topology::hall::Topology;
 
-// The words are just as many as the hall wants. A `&mut State` in place of
-// the four was tried: made in `carry_out`, an inner reference of it stands at another lifetime than the check covers.
+// The words are just as many as the hall wants.
+// Tried: a `&mut State` for the four; where `carry_out` makes it, a reference in it has a lifetime that the check doesn't cover.
 #[derive(Drop)]
 pub(crate) struct Lent<'h, 'm, 'w, 'n, 'l> {
     pub(crate) hall: &'h Topology,

@@ -15,7 +15,7 @@ pub struct Own {
 }
 
 // A lamp's own numbers and the places that it is wired to, by rising place; behind those the array holds nothing of meaning.
-// Fixed memory, and it is copied: an ArrayVec would not be.
+// Fixed memory, a rule of the project; and a site is copied, which an ArrayVec is not.
 #[derive(Clone, Copy)]
 pub struct Site {
     pub(crate) own: Own,

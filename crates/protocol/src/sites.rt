@@ -85,7 +85,7 @@ impl Site {
         ensures behind { (k : ℕ) → self.now.wires ≤ k → slice_index_or result k nothing ≡ nothing }
     {
         let mut all = [NOTHING; WIRES];
-        // by index: what an enumerate over iter_mut writes is not known, and array::from_fn got no proof
+        // by index: what an enumerate over iter_mut writes is not known; array::from_fn was tried and got no proof
         for k in 0..self.wires {
             all[k] = of(k);
         }

@@ -45,7 +45,7 @@ impl fmt::Display for Numbers {
 #[derive(Clone, Copy)]
 pub struct Work {
     pub numbers: Numbers,
-    // by wire, as fixed memory
+    // by wire: fixed memory, a rule of the project
     pub given: [u32; WIRES],
     ghost full: { length given ≡ 16 },
 }

@@ -48,7 +48,7 @@ impl Best {
         }
     }
 
-    // Whether the lamp at this place has a child that said this. No struct joins them: they are of two lamps.
+    // Whether the lamp at this place has a child that said this. No struct for place and said: of two lamps here, of one in `compared`.
     fn is_child(self, place: u32, said: Telling) -> bool
         ensures { result ≡ is_child place self said }
     {

@@ -69,7 +69,7 @@ impl Telling {
         }
     }
 
-    // The 28 bytes of this telling. A loop over its words would be no plainer: it would lay four bytes at a time by index.
+    // The 28 bytes of this telling. Not a From, as `from_part` is none; a loop over its words would lay four bytes at a time by index.
     fn to_part(self) -> [u8; PART]
         ensures { result ≡ bytes_of self }
     {

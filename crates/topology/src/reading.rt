@@ -13,7 +13,7 @@ use std::alloc::Global;
 use telling::fault::Fault;
 
 impl Topology {
-    // The topology that the lines of a hall file describe.
+    // The topology that the lines of a hall file describe. No TryFrom: it takes memory too.
     pub fn of(heap: Global, lines: &[Line]) -> Result<Topology, Fault<Refused>>
         ensures { ReadAs lines.now result }
     {
