@@ -23,7 +23,7 @@ use telling::refusal::Refusal;
 use topology::hall::Topology;
 
 impl Lent<'_, '_, '_, '_, '_> {
-    // All works and all hearings once, in the order that a seed gives.
+    // The doings, in the order that a seed gives.
     fn round(&mut self, doings: &mut [Doing], seed: u32)
         ensures { Turns self.old self.new (ran (hall_of self.old.hall.now) (order_of seed doings.old)) }
     {
