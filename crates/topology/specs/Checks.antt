@@ -1,7 +1,6 @@
 -- What is looked at in the lines of a hall file, one thing after the other.
 use Rattle.std.specs.Prelude.{◌≡◌, ℕ, ◌-◌, ◌<◌, ◌≤◌, true, false, List, length, Some, ◌≢◌, slice_index, slice_index_or}
 use Rattle.std.specs.List.{All}
-use Rattle.std.proofs.Props.{props}
 use Rattle.protocol.specs.declared.facts.Own.{Own}
 use Rattle.protocol.specs.declared.facts.Site.{Site}
 use Rattle.protocol.specs.Rows.{places_of}
@@ -47,12 +46,6 @@ RightEnds count (Lamp n) = Unit {0}
 RightEnds count (Wire a b) = (a < count) × (b < count) × (a ≢ b)
 RightEnds count Unknown = Unit {0}
 
-pub RightEnds-prop : (count : ℕ) (line : Line) → IsProp (RightEnds count line)
-RightEnds-prop count (Most m) = hlevel props
-RightEnds-prop count (Lamp n) = hlevel props
-RightEnds-prop count (Wire a b) = hlevel props
-RightEnds-prop count Unknown = hlevel props
-
 -- the lines stand in order, these are the most lamps and their names, and all but the lamps' own wires is right
 pub record Checked (lines : List Line) (most : ℕ) (names : List ℕ) : Type 0 where
   pub headed : Headed lines most
@@ -80,6 +73,3 @@ Stand most names lines sites n = (i : ℕ) (d : Site) → i < n → OfLamp (own_
 pub record Stands (most : ℕ) (names : List ℕ) (lines : List Line) (sites : List Site) : Type 0 where
   pub count : length sites ≡ length names
   pub each : Stand most names lines sites (length names)
-
--- the facts of a plan have one proof at most
-pub ruleset plan_props = (props, RightEnds-prop)

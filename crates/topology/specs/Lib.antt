@@ -4,3 +4,4 @@ pub mod Checks
 pub mod Reach
 pub mod Reading
 pub mod Reasons
+pub mod Plans

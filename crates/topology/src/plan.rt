@@ -2,7 +2,8 @@
 ghost use Rattle.std.specs.Prelude.{◌≡◌, false, IfOk, MatchOption};
 ghost use Rattle.protocol.specs.Wiring.{is_sound};
 ghost use Rattle.topology.specs.Files.{names_in, ends_at, places_at};
-ghost use Rattle.topology.specs.Checks.{Checked, AllSound, OfLamp, Stands, plan_props};
+ghost use Rattle.topology.specs.Checks.{Checked, AllSound, OfLamp, Stands};
+ghost use Rattle.topology.specs.Plans.{plan_props};
 
 use super::lines::Line;
 use places::rising;
