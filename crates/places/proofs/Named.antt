@@ -1,8 +1,11 @@
 -- Places that rise, a place put among them, and all that are named, sorted and each once.
-use Rattle.std.proofs.Common.{◌≡◌, ℕ, zero, suc, ◌+◌, ◌<◌, ◌≤◌, Bool, true, false, ◌||◌, eqb, ltb, List, [], ◌∷◌, length, get_or, fold, sym, refl, ap, ◌∙◌, ⊎_elim, arith}
+use Rattle.std.proofs.Common.{◌≡◌, ℕ, zero, suc, ◌+◌, ◌<◌, ◌≤◌, Bool, true, false, ◌||◌, eqb, ltb, List, [], ◌∷◌, ◌++◌, length, get_or, fold, sym, subst, refl, ap, ◌∙◌, ⊎_elim, arith}
 use mathlib.Core.Bool.{or-false, or_self, or_assoc}
 use Rattle.std.specs.List.{AllPairs, Contains, dedup}
 use Rattle.std.specs.List.Sorted.{IsPermutation, IsSorted}
+use Rattle.std.specs.List.Retain.{IsFiltered, DiffersFromLast}
+use Rattle.std.proofs.lemmas.List.Filters.{dedup_is}
+use Rattle.std.proofs.lemmas.List.Sums.{fold-append}
 use Rattle.std.specs.Ordering.{nat_cmp}
 use Rattle.std.proofs.lemmas.Bool.{both_ways, cond_both, or_cases, or_left, or_right, ltb-true, ltb-false, eqb-true, eqb-false, eq-eqb}
 use Rattle.std.proofs.lemmas.List.Kept.{AllPairs-from_increasing, Contains-dedup_nat, Contains-from_dedup}
@@ -131,3 +134,23 @@ sorted_once named sorted moved up =
     rise_alike 0 (dedup eqb sorted) (rising_of named) rise whole.0
     (λ x w. whole.1 x ∙ among_from named x (Contains-permutation _ _ x (IsPermutation-sym _ _ moved) (Contains-from_dedup eqb sorted x (element_from _ x w))))
     (λ x w. among_from _ x (Contains-dedup_nat sorted x (Contains-permutation _ _ x moved (element_from named x (sym (whole.1 x) ∙ w)))))
+
+-- places that rise are those that they name
+rising_again : (ps : List ℕ) → RiseFrom 0 ps → rising_of ps ≡ ps
+rising_again ps r =
+    let whole = rising_and_whole ps in
+    rise_alike 0 (rising_of ps) ps whole.0 r (λ x w. sym (whole.1 x) ∙ w) (λ x w. whole.1 x ∙ w)
+
+-- rising places and some more, sorted, and each once: what is named from there on makes of them what it makes of both
+pub part_more :
+    (ps part left sorted kept : List ℕ) → RiseFrom 0 ps → IsPermutation (ps ++ part) sorted → IsSorted nat_cmp sorted → IsFiltered (DiffersFromLast eqb) [] sorted kept →
+    RiseFrom 0 kept × (fold with_place kept left ≡ fold with_place ps (part ++ left))
+part_more ps part left sorted kept rise moved up filtered =
+    let once : kept ≡ rising_of (ps ++ part) = dedup_is _ _ _ filtered ∙ sorted_once (ps ++ part) sorted moved up in
+    let more : rising_of (ps ++ part) ≡ fold with_place ps part = fold-append with_place [] ps part ∙ ap (λ qs. fold with_place qs part) (rising_again ps rise) in
+    (subst (RiseFrom 0) (sym once) (rising_and_whole (ps ++ part)).0, ap (λ qs. fold with_place qs left) (once ∙ more) ∙ sym (fold-append with_place ps part left))
+
+-- before any part
+pub none_yet : (ps named left : List ℕ) → ps ≡ [] → left ≡ named → RiseFrom 0 ps × (fold with_place ps left ≡ rising_of named)
+unfolding RiseFrom
+none_yet ps named left none all = rw (none, all) (tt, refl)

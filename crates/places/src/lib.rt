@@ -6,13 +6,23 @@ ghost use Rattle.places.specs.Places.{rising_of, RisingAndWhole};
 
 use std::alloc::{AllocError, Global};
 
+// As many places as there are, but no fewer than this, are sorted in among them at a time.
+const PART: usize = 1024;
+
 // The places that are named, by rising place, each once.
 pub fn rising(heap: Global, named: &[u32]) -> Result<Vec<u32>, AllocError>
     ensures { IfOk result (λ places. places.items ≡ rising_of named.now) }
 {
-    let mut places = named.to_vec(heap)?;
-    places.sort_unstable();
-    places.dedup();
+    let mut places = Vec::new(heap);
+    let mut left = named;
+    // part by part, so that a place that is named again and again takes no room
+    while !left.is_empty() {
+        let (part, behind) = left.split_at(left.len().min(places.len().max(PART)));
+        places.extend_from_slice(part)?;
+        places.sort_unstable();
+        places.dedup();
+        left = behind;
+    }
     Ok(places)
 }
 

@@ -15,6 +15,8 @@ pub trait Said: Sized {
 }
 
 // What each line of a text says. `lines_of` and `commands_of` are this at two types, and say of what the lines are.
+// Apart from its callers: within a whole program its loops have no registers left, and a long line takes half as long again.
+#[inline(never)]
 pub(crate) fn each_line<T: Said + Drop>(heap: Global, text: &[u8]) -> Result<Vec<T>, AllocError>
     ensures { IfOk result (λ v. v.items ≡ map (λ line. T.Said.by (words_of line)) (lines_of text.now)) }
 {
