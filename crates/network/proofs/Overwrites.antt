@@ -15,7 +15,7 @@ module _ (xs ys : List ℕ) (a n : ℕ) (room : a + n ≤ length xs) (whole : le
   front : length (take a xs) ≡ a
   front = length-take-le a xs (omega arith)
 
-  mid_inside : (f d : ℕ) → f < n → get_or (put_mid a n xs ys) (a + f) d ≡ get_or ys f d
+  pub mid_inside : (f d : ℕ) → f < n → get_or (put_mid a n xs ys) (a + f) d ≡ get_or ys f d
   mid_inside f d l =
       get_or-append_right (take a xs) (ys ++ drop n (drop a xs)) a (a + f) d front (omega arith)
       ∙ ap (λ i. get_or (ys ++ drop n (drop a xs)) i d) (omega arith)
@@ -32,10 +32,10 @@ module _ (xs ys : List ℕ) (a n : ℕ) (room : a + n ≤ length xs) (whole : le
       ∙ get_or-drop a xs (n + (k - a - n)) d
       ∙ ap (λ i. get_or xs i d) (omega arith)
 
-  mid_outside : (k d : ℕ) → (k < a) ⊎ (a + n ≤ k) → get_or (put_mid a n xs ys) k d ≡ get_or xs k d
+  pub mid_outside : (k d : ℕ) → (k < a) ⊎ (a + n ≤ k) → get_or (put_mid a n xs ys) k d ≡ get_or xs k d
   mid_outside k d o = ⊎_elim (mid_below k d) (mid_above k d) o
 
-  length-mid : length (put_mid a n xs ys) ≡ length xs
+  pub length-mid : length (put_mid a n xs ys) ≡ length xs
   length-mid = simp (length-append, length-take, length-drop) (omega arith)
 
 get_or-part : (n : ℕ) (xs : List ℕ) (s k d : ℕ) → k < n → get_or (part_in n xs s) k d ≡ get_or xs (n * s + k) d

@@ -1,5 +1,5 @@
 -- Tables by slots: one slot written, and what the table stands for.
-use Rattle.std.proofs.Common.{◌≡◌, ℕ, zero, suc, ◌+◌, ◌<◌, ◌≤◌, Bool, true, false, cond, ◌&&◌, eqb, List, [], ◌∷◌, length, get_or, set, vec_items, sym, refl, ap, ◌∙◌, subst, ⊎_elim, arith}
+use Rattle.std.proofs.Common.{◌≡◌, ℕ, zero, suc, ◌+◌, ◌*◌, ◌<◌, ◌≤◌, Bool, true, false, cond, ◌&&◌, eqb, List, [], ◌∷◌, length, get_or, set, vec_items, sym, refl, ap, ◌∙◌, subst, ⊎_elim, arith}
 use Rattle.std.proofs.lemmas.List.{get_or-set_same, get_or-set_other}
 use Rattle.std.proofs.lemmas.Bool.{and_parts, and_from, eq-eqb, ne_eqb, eqb-true, leb-true, cases_eq, cases_lt, cases_Bool, cond-true, cond-false, both_ways, or_left, or_right}
 use Rattle.telling.specs.declared.Telling.{Telling}
@@ -77,6 +77,9 @@ has_at (p ∷ ps) (suc k) i l e = or_right _ _ (has_at ps k i (omega arith) e)
 
 pub slot_wired : {h : Hall} {j i s : ℕ} → Slot h j i s → is_wired h j i ≡ true
 slot_wired {h} {j} {i} slot = has_at (h.neighbours j) slot.wire i slot.there slot.leads
+
+pub slot_below : (t : Topology) {j i s : ℕ} → Slot (hall_of t) j i s → s < 16 * (hall_of t).count
+slot_below t {j} slot = omega (arith, slot.is, slot.there, slot.lamp, short t j slot.lamp)
 
 -- a test for one lamp and one neighbour
 pub record Picks (test : ℕ → ℕ → Bool) (j i : ℕ) : Type 0 where

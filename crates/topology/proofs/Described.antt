@@ -40,7 +40,7 @@ module _ {lines : List Line} {h : Hall} (d : Describes lines h) where
       (cases_order a b)
 
   -- where it is sound too, each wire is right
-  sound_right : Sound h → All (RightEnds h.count) lines
+  pub sound_right : Sound h → All (RightEnds h.count) lines
   sound_right s =
       ends_right h.count lines d.ends
       (λ i l e. rises_apart (own_of h i) 0 (h.neighbours i) (and_parts _ _ (s.sites i l)).1 (wired_at i i l ∙ e))
